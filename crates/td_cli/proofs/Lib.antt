@@ -4,6 +4,7 @@ mod Runs
 mod Batches
 mod LeftAtDesks
 mod LeftWithJournal
+mod ToldFrom
 mod KeptRows
 mod SentAgain
 mod Later

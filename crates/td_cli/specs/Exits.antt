@@ -30,7 +30,7 @@ use Rattle.td_machine.specs.declared.machine.ReadError.TheVariants as read_error
 use Rattle.td_jobs.specs.declared.serving.ServingEnd.{ServingEnd}
 use Rattle.td_jobs.specs.declared.serving.ServingEnd.TheVariants as serving
 use Rattle.td_cli.specs.declared.exits.Cause.{Cause}
-use Rattle.td_cli.specs.declared.exits.Cause.TheVariants.{BadCsv, BadRow, Differs, ForeignRow, HolderExists, NeedsMigration, Of}
+use Rattle.td_cli.specs.declared.exits.Cause.TheVariants.{BadCsv, BadRow, Differs, ForeignRow, HolderExists, NeedsMigration, Of, RowsRefused}
 use Rattle.td_cli.specs.declared.exits.Word.{Word}
 use Rattle.td_cli.specs.declared.exits.Word.TheVariants.{File, UnknownVersion, OtherCountry, Damaged, Journal, Store, NoMemory, Write, Socket, StreamRefused, StreamCut, ReadsSpent, ReadFault, WriteFault, StreamFailed}
 
@@ -55,7 +55,7 @@ word_text StreamFailed = codes "stream failed"
 abbrev pub word_line : Word → List ℕ
 word_line word = codes "transit-desk: " ++ (word_text word ++ codes "\n")
 
--- the line of a cause
+-- the line of a cause; a refused row has none, since the result file tells of it
 abbrev pub cause_line : Cause → List ℕ
 cause_line (BadCsv row column) = codes "transit-desk: bad csv row " ++ (decimal row ++ (codes " column " ++ (decimal column ++ codes "\n")))
 cause_line (NeedsMigration version) = codes "transit-desk: needs-migration " ++ (decimal version ++ codes "\n")
@@ -63,6 +63,7 @@ cause_line (HolderExists holder) = codes "transit-desk: holder-exists " ++ (hold
 cause_line (ForeignRow row) = codes "transit-desk: journal " ++ (decimal row ++ codes "\n")
 cause_line (BadRow row) = codes "transit-desk: bad journal row " ++ (decimal row ++ codes "\n")
 cause_line (Differs row) = codes "transit-desk: differs " ++ (decimal row ++ codes "\n")
+cause_line RowsRefused = codes ""
 cause_line (Of word) = word_line word
 
 -- the text was written, or as much of it as the writer took
@@ -70,13 +71,14 @@ abbrev pub IsWrittenOut : {W : Type 0} → (W → Option (List ℕ)) → Counted
 IsWrittenOut contents old new text =
     Appends (known_bytes contents old) (known_bytes contents new) text ⊎ IsCutShort contents old new text
 
--- The line of a cause was told. In the place of one that has numbers it may be told that there was no memory for it.
+-- The line of a cause was told, if it has one. In the place of one that has numbers it may be told that there was no memory for it.
 abbrev pub IsCauseTold : {E : Type 0} → (E → Option (List ℕ)) → Counted E → Counted E → Cause → Type 0
+IsCauseTold said errors errors_left RowsRefused = errors_left ≡ errors
 IsCauseTold said errors errors_left (Of word) = IsWrittenOut said errors errors_left (word_line word)
 IsCauseTold said errors errors_left cause =
     IsWrittenOut said errors errors_left (cause_line cause) ⊎ IsWrittenOut said errors errors_left (word_line NoMemory)
 
--- A job ended well, with status 0 and no line; or by a cause, with status 1 and its line.
+-- A job ended well, with status 0 and no line; or by a cause, with status 1 and the cause's line.
 abbrev pub IsEnded : {E : Type 0} → (E → Option (List ℕ)) → Option Cause → Counted E → Counted E → ℕ → Type 0
 IsEnded said None errors errors_left status = (status ≡ 0) × (errors_left ≡ errors)
 IsEnded said (Some cause) errors errors_left status = (status ≡ 1) × IsCauseTold said errors errors_left cause

@@ -1,11 +1,12 @@
+pub mod World
 pub mod Exits
-pub mod Statuses
+pub mod Told
 pub mod Desks
 pub mod AtDesk
 pub mod Journaled
-pub mod World
 pub mod Batched
 pub mod Replayed
+pub mod Checked
 pub mod Migrated
 pub mod Reported
 pub mod Transferred

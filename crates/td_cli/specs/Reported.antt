@@ -2,10 +2,8 @@
 use Rattle.std.specs.Prelude.{◌≡◌, ℕ, List, is_ok, true, Option, None, Some, Result, Ok, Err}
 use Rattle.counted_io.specs.declared.counted.Counted.{Counted}
 use Rattle.counted_io.specs.Counted.{calls_of, has_failed, HasCalled}
-use Rattle.sqlite_disk.specs.declared.Disk.{Ghosts}
 use Rattle.td_desk.specs.Content.{Content}
 use Rattle.td_desk.specs.View.{DeskView}
-use Rattle.td_files.specs.Found.{FileHeld}
 use Rattle.td_files.specs.declared.desks.DeskFault.{DeskFault}
 use Rattle.td_report_pieces.specs.Written.{HasWritten, IsReported}
 use Rattle.td_reports.specs.Texts.{guarantees_text, overdue_text}
@@ -16,9 +14,9 @@ use Rattle.td_table_model.specs.Listed.{guarantees_listed, movements_listed}
 use Rattle.td_words.specs.declared.words.Records.{Records}
 use Rattle.td_words.specs.declared.words.ReportKind.{ReportKind}
 use Rattle.td_words.specs.declared.words.ReportKind.TheVariants.{Overdue, Guarantees}
-use Rattle.td_machine.specs.Drive.{KnownDrive}
 use Rattle.td_cli.specs.AtDesk.{AtDesk}
 use Rattle.td_cli.specs.Exits.{IsEnded, of_job, of_report}
+use Rattle.td_cli.specs.World.{IsOfOneFile, Lent, World}
 use Rattle.td_cli.specs.declared.exits.Cause.{Cause}
 
 -- the text of a report on a content
@@ -42,12 +40,13 @@ abbrev pub report_cause : Result (Unit {0}) ReportFault → Option Cause
 report_cause (Ok done) = None
 report_cause (Err why) = Some (of_report why)
 
--- The records that stand there were reported on, of a desk of this country, or nothing was written, since there was no desk; and what
--- came of it was told.
-abbrev pub IsReportDone : {W E V S : Type 0} {disk : Ghosts S} → (W → Option (List ℕ)) → (E → Option (List ℕ)) → KnownDrive V S → List ℕ
-    → ReportKind → Records → Counted W → Counted W → Counted E → Counted E → FileHeld V disk → FileHeld V disk → ℕ → Type 0
-IsReportDone contents said drive country kind records out out_left errors errors_left before file status =
-    (end : Result (Result (Unit {0}) ReportFault) DeskFault)
-    × AtDesk drive country records (λ D view opened left end. HasReported view opened left contents kind out out_left end) (out_left ≡ out)
-    before file end
-    × IsEnded said (of_job report_cause end) errors errors_left status
+module _ {M L Reads Writes R W E V S O T : Type 0} (lent : Lent M L Reads Writes R W E V S O T) where
+  -- The records that stand there were reported on, of a desk of this country, or nothing was written, since there was no desk; and what
+  -- came of it was told.
+  abbrev pub IsReportDone : List ℕ → ReportKind → Records → World lent → World lent → ℕ → Type 0
+  IsReportDone country kind records old new status =
+      IsOfOneFile lent old new
+      × ((end : Result (Result (Unit {0}) ReportFault) DeskFault)
+      × AtDesk lent.drive country records (λ D view opened left end. HasReported view opened left lent.output kind old.output new.output end)
+      (new.output ≡ old.output) old.file new.file end
+      × IsEnded lent.errors (of_job report_cause end) old.errors new.errors status)

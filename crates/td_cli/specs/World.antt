@@ -1,11 +1,12 @@
 -- What the program stands in.
-use Rattle.std.specs.Prelude.{Option, List, ℕ}
+use Rattle.std.specs.Prelude.{◌≡◌, Option, List, ℕ}
 use Rattle.counted_io.specs.declared.counted.Counted.{Counted}
 use Rattle.sqlite_disk.specs.declared.Disk.{Ghosts}
 use Rattle.td_files.specs.Found.{FileHeld}
 use Rattle.td_jobs.specs.Jobs.{IsUntouched}
 use Rattle.td_machine.specs.Drive.{KnownDrive}
 use Rattle.td_machine.specs.Machine.{Around}
+use Rattle.td_cli.specs.declared.context.Context.{Context}
 
 -- What the program is lent, by what is known of it: the machine, the input and both outputs, and the drives and disks of the files that its
 -- words name, if they name one, or two.
@@ -42,6 +43,34 @@ module _ {M L Reads Writes R W E V S O T : Type 0} (lent : Lent M L Reads Writes
     pub file : FileHeld V lent.disk
     pub other : FileHeld O lent.other_disk
 
+  -- what stands behind the references that a job is lent
+  abbrev pub world_of : Context M V S O T R W E lent.disk lent.other_disk → World
+  world_of context = record {
+    machine = context.machine.now;
+    input = context.input.now;
+    output = context.out.now;
+    errors = context.errors.now;
+    file = context.file.now;
+    other = context.other.now;
+  }
+
   -- nothing was read, printed or asked of the machine
   abbrev pub IsIdle : World → World → Type 0
   IsIdle old new = IsUntouched old.input new.input old.output new.output old.machine new.machine
+
+  -- of the files at most the desk's was opened; nothing was read, and nothing asked of the machine
+  abbrev pub IsOfOneFile : World → World → Type 0
+  IsOfOneFile old new = (new.input ≡ old.input) × (new.machine ≡ old.machine) × (new.other ≡ old.other)
+
+  -- and not even that: at most something was printed or told
+  abbrev pub IsOfNoFile : World → World → Type 0
+  IsOfNoFile old new = IsOfOneFile old new × (new.file ≡ old.file)
+
+-- a context still holds what it was lent, so that what its job leaves is left there
+pub record IsLentStill {M V S O T R W E : Type 0} {disk : Ghosts S} {others : Ghosts T} (old new : Context M V S O T R W E disk others) : Type 0 where
+  pub machine : new.machine.ghost_name ≡ old.machine.ghost_name
+  pub file : new.file.ghost_name ≡ old.file.ghost_name
+  pub other : new.other.ghost_name ≡ old.other.ghost_name
+  pub input : new.input.ghost_name ≡ old.input.ghost_name
+  pub out : new.out.ghost_name ≡ old.out.ghost_name
+  pub errors : new.errors.ghost_name ≡ old.errors.ghost_name

@@ -4,7 +4,9 @@ ghost use Rattle.td_files.specs.Found.{IsKeptDesk, over_file};
 ghost use Rattle.td_jobs.specs.Desks.{IsReady};
 ghost use Rattle.td_jobs.specs.Jobs.{IsUntouched};
 ghost use Rattle.td_cli.specs.AtDesk.{AtDesk, without_job};
+ghost use Rattle.td_cli.specs.World.{IsLentStill};
 
+use crate::context::JobContext;
 use std::alloc::Global;
 use std::io::{Read, Write};
 use td_base::Counted;
@@ -20,40 +22,71 @@ pub(crate) struct Undone<J> {
     pub job: J,
 }
 
-/// Does a job at a desk of the office whose records stand there, and answers how it ended. An error: why there was no desk, and the
-/// job, which wasn't done.
-pub(crate) fn at_desk<M: Machine, V: Drive, R: Read, W: Write, J: DeskJob>(
-    alloc: Global,
-    machine: &mut M,
-    office: Office,
-    records: &Records,
-    file: &mut DeskFile<V>,
-    job: J,
-    input: &mut Counted<R>,
-    out: &mut Counted<W>,
-) -> Result<J::End, Undone<J>>
-    ensures done { AtDesk V.known office.country records.now
-        (λ D view opened left end. J.does D _ _ _ _ _ _ view opened left R.remaining W.contents ⟦<M as Surroundings>⟧.around office.at job
-        input.old input.new out.old out.new machine.old machine.new end)
-        (IsUntouched input.old input.new out.old out.new machine.old machine.new) file.old file.new (without_job result) }
-    ensures job { IfErr result (λ undone. undone.job ≡ job) }
+impl<M, V, O, R, W, E> JobContext<'_, '_, '_, '_, '_, '_, M, V, O, R, W, E>
+where
+    M: Machine,
+    V: Drive,
+    O: Drive,
+    R: Read,
+    W: Write,
+    E: Write,
 {
-    match records {
-        Records::Memory => match in_memory(alloc, machine, office, job, input, out) {
-            Ok(end) => Ok(end),
-            Err(job) => Err(Undone {
-                why: DeskFault::Refused(OpenFault::NoMemory),
-                job,
-            }),
-        },
-        Records::File(path) => match file.open_desk(alloc, office.country, path) {
-            Ok(desk) => Ok(over_file(alloc, machine, desk, office.at, file, job, input, out)),
-            Err(why) => Err(Undone { why, job }),
-        },
-        Records::NewFile(path) => match file.make_desk(alloc, office.country, path) {
-            Ok(desk) => Ok(over_file(alloc, machine, desk, office.at, file, job, input, out)),
-            Err(why) => Err(Undone { why, job }),
-        },
+    /// Does a job at a desk of the office whose records stand there, and answers how it ended. An error: why there was no desk, and the
+    /// job, which wasn't done.
+    pub(crate) fn at_desk<J: DeskJob>(
+        &mut self,
+        alloc: Global,
+        office: Office,
+        records: &Records,
+        job: J,
+    ) -> Result<J::End, Undone<J>>
+        ensures lent { IsLentStill self.old self.new }
+        ensures other { self.new.other.now ≡ self.old.other.now }
+        ensures untold { self.new.errors.now ≡ self.old.errors.now }
+        ensures done { AtDesk V.known office.country records.now
+            (λ D view opened left end. J.does D _ _ _ _ _ _ view opened left R.remaining W.contents ⟦<M as Surroundings>⟧.around office.at job
+            self.old.input.now self.new.input.now self.old.out.now self.new.out.now self.old.machine.now self.new.machine.now end)
+            (IsUntouched self.old.input.now self.new.input.now self.old.out.now self.new.out.now self.old.machine.now self.new.machine.now)
+            self.old.file.now self.new.file.now (without_job result) }
+        ensures job { IfErr result (λ undone. undone.job ≡ job) }
+    {
+        match records {
+            Records::Memory => {
+                match in_memory(alloc, self.machine, office, job, self.input, self.out) {
+                    Ok(end) => Ok(end),
+                    Err(job) => Err(Undone {
+                        why: DeskFault::Refused(OpenFault::NoMemory),
+                        job,
+                    }),
+                }
+            }
+            Records::File(path) => match self.file.open_desk(alloc, office.country, path) {
+                Ok(desk) => Ok(over_file(
+                    alloc,
+                    self.machine,
+                    desk,
+                    office.at,
+                    self.file,
+                    job,
+                    self.input,
+                    self.out,
+                )),
+                Err(why) => Err(Undone { why, job }),
+            },
+            Records::NewFile(path) => match self.file.make_desk(alloc, office.country, path) {
+                Ok(desk) => Ok(over_file(
+                    alloc,
+                    self.machine,
+                    desk,
+                    office.at,
+                    self.file,
+                    job,
+                    self.input,
+                    self.out,
+                )),
+                Err(why) => Err(Undone { why, job }),
+            },
+        }
     }
 }
 

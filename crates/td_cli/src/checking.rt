@@ -1,37 +1,34 @@
 //! Whether there is a desk where records stand.
-ghost use Rattle.std.specs.Prelude.{◌≡◌};
-ghost use Rattle.td_cli.specs.Performed.{IsChecked};
+ghost use Rattle.td_cli.specs.Checked.{IsChecked};
+ghost use Rattle.td_cli.specs.World.{IsLentStill, lent_by, world_of};
 
-use crate::at_desk::at_desk;
+use crate::context::JobContext;
 use crate::exits::{fault, of_file};
-use crate::telling::print;
 use std::alloc::Global;
 use std::io::{Read, Write};
-use td_base::Counted;
-use td_files::DeskFile;
 use td_jobs::Checking;
-use td_machine::{Drive, Machine};
+use td_machine::{Drive, Machine, Surroundings};
 use td_words::{Office, Records};
 
-/// Tells whether a desk of the office can be opened where the records stand, and gives the status. The input isn't read, and
-/// nothing is asked of the machine.
-pub(crate) fn check<M: Machine, V: Drive, R: Read, W: Write, E: Write>(
-    alloc: Global,
-    machine: &mut M,
-    office: Office,
-    records: &Records,
-    file: &mut DeskFile<V>,
-    input: &mut Counted<R>,
-    out: &mut Counted<W>,
-    errors: &mut Counted<E>,
-) -> u8
-    ensures unread { input.new ≡ input.old }
-    ensures unasked { machine.new ≡ machine.old }
-    ensures checked { IsChecked W.contents E.contents V.known office.country records.now out.old out.new errors.old errors.new
-        file.old file.new result }
+impl<M, V, O, R, W, E> JobContext<'_, '_, '_, '_, '_, '_, M, V, O, R, W, E>
+where
+    M: Machine,
+    V: Drive,
+    O: Drive,
+    R: Read,
+    W: Write,
+    E: Write,
 {
-    match at_desk(alloc, machine, office, records, file, Checking, input, out) {
-        Ok(()) => print(alloc, "sound\n", out, errors),
-        Err(undone) => fault(alloc, of_file(undone.why), errors),
+    /// Tells whether a desk of the office can be opened where the records stand, and gives the status. The input isn't read, and
+    /// nothing is asked of the machine.
+    pub(crate) fn check(&mut self, alloc: Global, office: Office, records: &Records) -> u8
+        ensures lent { IsLentStill self.old self.new }
+        ensures checked { IsChecked (lent_by ⟦<M as Surroundings>⟧.around R.remaining W.contents E.contents V.known V.Disk.Disk O.known O.Disk.Disk)
+            office.country records.now (world_of _ self.old) (world_of _ self.new) result }
+    {
+        match self.at_desk(alloc, office, records, Checking) {
+            Ok(()) => self.print(alloc, b"sound\n", None),
+            Err(undone) => fault(alloc, of_file(undone.why), self.errors),
+        }
     }
 }

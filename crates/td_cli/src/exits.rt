@@ -19,9 +19,9 @@ use td_reports::ReportFault;
 use td_table_model::Rule;
 
 /// The status of a job that is done.
-pub(crate) const DONE: u8 = 0;
+const DONE: u8 = 0;
 /// The status of a job that a fault ended, or in which a row was refused.
-pub(crate) const FAULT: u8 = 1;
+const FAULT: u8 = 1;
 /// The status of wrong words.
 pub(crate) const WRONG_WORDS: u8 = 2;
 
@@ -40,6 +40,8 @@ pub enum Cause {
     BadRow(u64),
     /// What is said to the row of a journal with this number isn't what it has.
     Differs(u64),
+    /// A row of a batch was refused: the result file tells of it, and nothing else is told.
+    RowsRefused,
     /// A cause whose line is fixed.
     Of(Word),
 }
@@ -326,6 +328,7 @@ pub(crate) fn fault<E: Write>(alloc: Global, cause: Cause, errors: &mut Counted<
         Cause::ForeignRow(row) => tell_made(foreign_row_line(alloc, row), errors),
         Cause::BadRow(row) => tell_made(bad_row_line(alloc, row), errors),
         Cause::Differs(row) => tell_made(differs_line(alloc, row), errors),
+        Cause::RowsRefused => {}
         Cause::Of(word) => tell(word.line(), errors),
     }
     FAULT

@@ -1,48 +1,84 @@
 //! A journal, done again at a desk.
-ghost use Rattle.std.specs.Prelude.{◌≡◌, IfErr, IfOk, map};
+ghost use Rattle.std.specs.Prelude.{◌≡◌, IfErr, IfOk, map, option_map};
 ghost use Rattle.td_journal_lines.specs.Rows.{numbered};
-ghost use Rattle.td_cli.specs.Replayed.{AreRowsOf, IsReplayAtDesk, IsJournalReplayed, IsReplayTold, IsUnreadFor};
+ghost use Rattle.td_cli.specs.Replayed.{AreRowsOf, IsJournalReplayed, IsReplayAtDesk, IsUnreadFor};
+ghost use Rattle.td_cli.specs.World.{IsLentStill, IsOfOneFile, lent_by, world_of};
+ghost use Rattle.td_cli.specs.declared.exits.Cause.TheVariants.{Differs};
 
-use crate::at_desk::at_desk;
-use crate::exits::{Cause, DONE, Word, fault, of_file, of_journal, of_read_error, of_stop};
+use crate::context::JobContext;
+use crate::exits::{Cause, fault, of_file, of_journal, of_read_error};
 use std::alloc::Global;
 use std::io::{Read, Write};
-use td_base::{Counted, write_whole};
-use td_files::DeskFile;
 use td_journal_jobs::Replaying;
 use td_journal_lines::ChangeRow;
 use td_machine::{Drive, Machine, Surroundings};
-use td_replay::{ReplayRun, first_fall, first_gap, read_changes};
+use td_replay::{first_fall, first_gap, read_changes};
 use td_words::{Office, Records};
 
-/// Does the rows of the journal in the machine's file at the path `csv` again, each at its own moment, at a desk of the office whose
-/// records stand there; prints what is said to each, and gives the status. Numbers run from 1 on, or rise at least where the rows are
-/// a `part` of a journal. No desk's file is opened where the rows can't be read. The input isn't read, and no clock is asked.
-pub(crate) fn replay<M: Machine, V: Drive, R: Read, W: Write, E: Write>(
-    alloc: Global,
-    machine: &mut M,
-    office: Office,
-    csv: &str,
-    part: bool,
-    records: &Records,
-    file: &mut DeskFile<V>,
-    input: &mut Counted<R>,
-    out: &mut Counted<W>,
-    errors: &mut Counted<E>,
-) -> u8
-    ensures unread { input.new ≡ input.old }
-    ensures done { IsJournalReplayed ⟦<M as Surroundings>⟧.around W.contents E.contents V.known office.country records.now csv.now part
-        out.old out.new errors.old errors.new file.old file.new machine.old machine.new result }
+impl<M, V, O, R, W, E> JobContext<'_, '_, '_, '_, '_, '_, M, V, O, R, W, E>
+where
+    M: Machine,
+    V: Drive,
+    O: Drive,
+    R: Read,
+    W: Write,
+    E: Write,
 {
-    let bytes = match machine.read_file(alloc, csv) {
-        Ok(bytes) => bytes,
-        Err(why) => return fault(alloc, of_read_error(why), errors),
-    };
-    match rows_of(alloc, part, &bytes) {
-        Ok(rows) => do_rows(
-            alloc, machine, office, rows, records, file, input, out, errors,
-        ),
-        Err(cause) => fault(alloc, cause, errors),
+    /// Does the rows of the journal in the machine's file at the path `csv` again, each at its own moment, at a desk of the office whose
+    /// records stand there; prints what is said to each, and gives the status. Numbers run from 1 on, or rise at least where the rows are
+    /// a `part` of a journal. No desk's file is opened where the rows can't be read. The input isn't read, and no clock is asked.
+    pub(crate) fn replay(
+        &mut self,
+        alloc: Global,
+        office: Office,
+        csv: &str,
+        part: bool,
+        records: &Records,
+    ) -> u8
+        ensures lent { IsLentStill self.old self.new }
+        ensures done { IsJournalReplayed (lent_by ⟦<M as Surroundings>⟧.around R.remaining W.contents E.contents V.known V.Disk.Disk O.known O.Disk.Disk)
+            office.country records.now csv.now part (world_of _ self.old) (world_of _ self.new) result }
+    {
+        let bytes = match self.machine.read_file(alloc, csv) {
+            Ok(bytes) => bytes,
+            Err(why) => return fault(alloc, of_read_error(why), self.errors),
+        };
+        match rows_of(alloc, part, &bytes) {
+            Ok(rows) => self.replay_rows(alloc, office, records, rows),
+            Err(cause) => fault(alloc, cause, self.errors),
+        }
+    }
+
+    // Does the rows at the desk, and tells what became of them: the fault that stopped the run, or the first row that is told something
+    // else.
+    fn replay_rows(
+        &mut self,
+        alloc: Global,
+        office: Office,
+        records: &Records,
+        rows: Vec<ChangeRow>,
+    ) -> u8
+        ensures lent { IsLentStill self.old self.new }
+        ensures kept { IsOfOneFile (lent_by ⟦<M as Surroundings>⟧.around R.remaining W.contents E.contents V.known V.Disk.Disk O.known O.Disk.Disk)
+            (world_of _ self.old) (world_of _ self.new) }
+        ensures done { IsReplayAtDesk (lent_by ⟦<M as Surroundings>⟧.around R.remaining W.contents E.contents V.known V.Disk.Disk O.known O.Disk.Disk)
+            office.country records.now (map numbered rows.items) (world_of _ self.old) (world_of _ self.new) result }
+    {
+        let job = Replaying { rows };
+        match self.at_desk(alloc, office, records, job) {
+            Ok(run) => self.tell_result(alloc, &run.text, run.stopped, differs_cause(run.differs)),
+            Err(undone) => fault(alloc, of_file(undone.why), self.errors),
+        }
+    }
+}
+
+// The cause by which a replay ended in which a row is told something else.
+fn differs_cause(differs: Option<u64>) -> Option<Cause>
+    ensures { result ≡ option_map Differs differs }
+{
+    match differs {
+        Some(row) => Some(Cause::Differs(row)),
+        None => None,
     }
 }
 
@@ -63,47 +99,5 @@ fn rows_of(alloc: Global, part: bool, bytes: &[u8]) -> Result<Vec<ChangeRow>, Ca
     match misplaced {
         Some(row) => Err(Cause::ForeignRow(row)),
         None => Ok(rows),
-    }
-}
-
-// Does the rows at the desk, and tells what became of them.
-fn do_rows<M: Machine, V: Drive, R: Read, W: Write, E: Write>(
-    alloc: Global,
-    machine: &mut M,
-    office: Office,
-    rows: Vec<ChangeRow>,
-    records: &Records,
-    file: &mut DeskFile<V>,
-    input: &mut Counted<R>,
-    out: &mut Counted<W>,
-    errors: &mut Counted<E>,
-) -> u8
-    ensures unread { input.new ≡ input.old }
-    ensures unasked { machine.new ≡ machine.old }
-    ensures done { IsReplayAtDesk W.contents E.contents V.known office.country records.now (map numbered rows.items)
-        out.old out.new errors.old errors.new file.old file.new result }
-{
-    let job = Replaying { rows };
-    match at_desk(alloc, machine, office, records, file, job, input, out) {
-        Ok(run) => tell_replay(alloc, &run, out, errors),
-        Err(undone) => fault(alloc, of_file(undone.why), errors),
-    }
-}
-
-// Prints the result file, says the fault that stopped the run, or the first row that is told something else, and gives the status.
-fn tell_replay<W: Write, E: Write>(
-    alloc: Global,
-    run: &ReplayRun,
-    out: &mut Counted<W>,
-    errors: &mut Counted<E>,
-) -> u8
-    ensures { IsReplayTold W.contents E.contents run.now out.old out.new errors.old errors.new result }
-{
-    let is_whole = write_whole(out, &run.text);
-    match (run.stopped, run.differs) {
-        (Some(why), _) => fault(alloc, of_stop(why), errors),
-        (None, _) if !is_whole => fault(alloc, Cause::Of(Word::Write), errors),
-        (None, Some(row)) => fault(alloc, Cause::Differs(row), errors),
-        (None, None) => DONE,
     }
 }

@@ -8,34 +8,45 @@ ghost use Rattle.counted_io.specs.Counted.{calls_of, has_failed, HasCalled};
 ghost use Rattle.td_report_pieces.specs.Written.{HasWritten, IsReported};
 ghost use Rattle.td_store.specs.Kept.{sql_view};
 ghost use Rattle.td_store.specs.Looked.{HasLooked};
+ghost use Rattle.td_cli.specs.World.{IsLentStill, lent_by, world_of};
 
+use crate::context::JobContext;
 use crate::exits::{Cause, exit, of_file, of_report};
 use sqlite::Alter;
 use std::alloc::Global;
-use std::io::Write;
+use std::io::{Read, Write};
 use td_base::{Counted, Country};
 use td_files::{DeskFault, DeskFile};
-use td_machine::Drive;
+use td_machine::{Drive, Machine, Surroundings};
 use td_reports::{ReportFault, guarantees, overdue};
 use td_store::SqlDesk;
 use td_words::ReportKind;
 
-/// Writes a report on the records of a desk of that country, which stand in the file at the path, tells the fault that ended it, if
-/// any, or why there was no desk, and gives the status. No row is changed.
-pub(crate) fn report<V: Drive, W: Write, E: Write>(
-    alloc: Global,
-    country: Country,
-    kind: ReportKind,
-    path: String,
-    file: &mut DeskFile<V>,
-    out: &mut Counted<W>,
-    errors: &mut Counted<E>,
-) -> u8
-    ensures { IsReportDone W.contents E.contents V.known country kind (File path) out.old out.new errors.old errors.new
-        file.old file.new result }
+impl<M, V, O, R, W, E> JobContext<'_, '_, '_, '_, '_, '_, M, V, O, R, W, E>
+where
+    M: Machine,
+    V: Drive,
+    O: Drive,
+    R: Read,
+    W: Write,
+    E: Write,
 {
-    let end = report_on(alloc, country, kind, path, file, out);
-    exit(alloc, cause(end), errors)
+    /// Writes a report on the records of a desk of that country, which stand in the file at the path, tells the fault that ended it, if
+    /// any, or why there was no desk, and gives the status. No row is changed.
+    pub(crate) fn report(
+        &mut self,
+        alloc: Global,
+        country: Country,
+        kind: ReportKind,
+        path: String,
+    ) -> u8
+        ensures lent { IsLentStill self.old self.new }
+        ensures done { IsReportDone (lent_by ⟦<M as Surroundings>⟧.around R.remaining W.contents E.contents V.known V.Disk.Disk O.known O.Disk.Disk)
+            country kind (File path) (world_of _ self.old) (world_of _ self.new) result }
+    {
+        let end = report_on(alloc, country, kind, path, self.file, self.out);
+        exit(alloc, cause(end), self.errors)
+    }
 }
 
 // Writes it, or answers why there was no desk.

@@ -2,13 +2,15 @@
 ghost use Rattle.std.specs.Prelude.{◌≡◌};
 ghost use Rattle.td_cli.specs.Exits.{of_extract, of_job, of_joined};
 ghost use Rattle.td_cli.specs.Transferred.{IsTransferred};
+ghost use Rattle.td_cli.specs.World.{IsLentStill, lent_by, world_of};
 
+use crate::context::JobContext;
 use crate::exits::{Cause, exit, of_file, of_join};
 use std::alloc::Global;
-use std::io::Write;
-use td_base::{Counted, Country};
-use td_files::{DeskFault, DeskFile, JoinRefusal};
-use td_machine::Drive;
+use std::io::{Read, Write};
+use td_base::Country;
+use td_files::{DeskFault, JoinRefusal};
+use td_machine::{Drive, Machine, Surroundings};
 use td_words::Transfer;
 
 // The cause for which no file was made, if none was.
@@ -31,28 +33,34 @@ fn join_cause(end: Result<(), JoinRefusal>) -> Option<Cause>
     }
 }
 
-/// Copies the rows of some holders into a new file, or puts all rows of one file into another, tells how it ended, and gives the
-/// status. The first file is that of `--db`.
-pub(crate) fn transfer<V: Drive, O: Drive, E: Write>(
-    alloc: Global,
-    country: Country,
-    what: Transfer,
-    file: &mut DeskFile<V>,
-    other: &mut DeskFile<O>,
-    errors: &mut Counted<E>,
-) -> u8
-    ensures { IsTransferred E.contents V.known O.known what country errors.old errors.new
-        file.old file.new other.old other.new result }
+impl<M, V, O, R, W, E> JobContext<'_, '_, '_, '_, '_, '_, M, V, O, R, W, E>
+where
+    M: Machine,
+    V: Drive,
+    O: Drive,
+    R: Read,
+    W: Write,
+    E: Write,
 {
-    match what {
-        Transfer::Extract(holders, from, into) => {
-            let (first, last) = (holders.first, holders.last);
-            let end = file.extract(alloc, country, &from, first, last, other, &into);
-            exit(alloc, extract_cause(end), errors)
-        }
-        Transfer::Join(into, from) => {
-            let end = file.join(alloc, country, &into, other, &from);
-            exit(alloc, join_cause(end), errors)
+    /// Copies the rows of some holders into a new file, or puts all rows of one file into another, tells how it ended, and gives the
+    /// status. The first file is that of `--db`.
+    pub(crate) fn transfer(&mut self, alloc: Global, country: Country, what: Transfer) -> u8
+        ensures lent { IsLentStill self.old self.new }
+        ensures transferred { IsTransferred (lent_by ⟦<M as Surroundings>⟧.around R.remaining W.contents E.contents V.known V.Disk.Disk O.known O.Disk.Disk)
+            what country (world_of _ self.old) (world_of _ self.new) result }
+    {
+        match what {
+            Transfer::Extract(holders, from, into) => {
+                let (first, last) = (holders.first, holders.last);
+                let end = self
+                    .file
+                    .extract(alloc, country, &from, first, last, self.other, &into);
+                exit(alloc, extract_cause(end), self.errors)
+            }
+            Transfer::Join(into, from) => {
+                let end = self.file.join(alloc, country, &into, self.other, &from);
+                exit(alloc, join_cause(end), self.errors)
+            }
         }
     }
 }

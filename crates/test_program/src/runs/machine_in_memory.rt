@@ -7,7 +7,7 @@ use std::alloc::{AllocError, Global};
 use std::collections::VecDeque;
 use std::test::Fail;
 use td_base::Counted;
-use td_cli::{DeskFile, Drive, Machine, perform_on};
+use td_cli::{Context, DeskFile, Drive, Machine, perform_on};
 use td_machine::{MemoryDrive, MemoryFile, MemoryIncoming, MemoryMachine};
 
 const REGISTER: &[u8] =
@@ -110,16 +110,15 @@ fn done_over<M: Machine, V: Drive, O: Drive>(
     let mut input = Counted::new(input);
     let mut out = Counted::new(Vec::new(alloc));
     let mut errors = Counted::new(Vec::new(alloc));
-    let status = perform_on(
-        alloc,
+    let mut context = Context {
         machine,
-        &words,
         file,
         other,
-        &mut input,
-        &mut out,
-        &mut errors,
-    );
+        input: &mut input,
+        out: &mut out,
+        errors: &mut errors,
+    };
+    let status = perform_on(alloc, &words, &mut context);
     Ok(Done {
         status,
         out: out.into_inner(),

@@ -1,7 +1,7 @@
 use Rattle.std.proofs.Common.{refl}
 use Rattle.sqlite.specs.Files.{image_of}
 use Rattle.td_cli.proofs.Desks.{kept_ready, made_ready}
-use Rattle.td_cli.proofs.at_desk.at_desk.Goals as goal
+use Rattle.td_cli.proofs.at_desk.JobContext+M+V+O+R+W+E.at_desk.Goals as goal
 
 pub returns-in-Ok-open_desk-clause-done : goal.returns-in-Ok-open_desk-clause-done
 returns-in-Ok-open_desk-clause-done g c =

@@ -1,0 +1,25 @@
+use Rattle.std.proofs.Common.{refl}
+use Rattle.std.specs.Prelude.{option_map, string_bytes}
+use Rattle.td_cli.specs.World.{world_of}
+use Rattle.td_cli.proofs.LeftWithJournal.{left_later}
+use Rattle.td_cli.proofs.serving.JobContext+M+V+O+R+W+E.serve.Goals as goal
+
+pub returns-then-first-clause-done : goal.returns-then-first-clause-done
+returns-then-first-clause-done g c =
+    let end = c.with_journal-end in
+    rw c.if-first.true (
+      end.result,
+      left_later _ c.args.office.country (world_of _ c.args.self.now) (world_of _ end.new.self) _ refl refl
+      _ _ c.args.records.now (option_map string_bytes c.args.journal.now) end.result end.ensures.done,
+      rw (end.ensures.untold, c.standby_cause.ensures) at c.exit.ensures,
+    )
+
+pub returns-else-first-clause-done : goal.returns-else-first-clause-done
+returns-else-first-clause-done g c =
+    let end = c.with_journal-end-else-first in
+    rw c.if-first.false (
+      end.result,
+      left_later _ c.args.office.country (world_of _ c.args.self.now) (world_of _ end.new.self) _ refl refl
+      _ _ c.args.records.now (option_map string_bytes c.args.journal.now) end.result end.ensures.done,
+      rw (end.ensures.untold, c.serving_cause.ensures) at c.exit-else-first.ensures,
+    )
