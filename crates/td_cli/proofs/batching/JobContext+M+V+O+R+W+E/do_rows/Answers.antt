@@ -42,6 +42,6 @@ returns-clause-done g c =
     let new = c.tell_batch.new.self in (
       end.result,
       rw kept.0.1 (left_later _ c.args.office.country (world_of _ old) (world_of _ begun) _ kept.1 kept.0.2
-      _ _ c.args.records.now (option_map string_bytes c.args.journal.now) end.result at.1),
+          _ _ c.args.records.now (option_map string_bytes c.args.journal.now) end.result at.1),
       batch_from _ (world_of _ old) (world_of _ begun) (world_of _ new) at.0.1 end.ensures.untold _ end.result c.tell_batch.ensures.told,
     )

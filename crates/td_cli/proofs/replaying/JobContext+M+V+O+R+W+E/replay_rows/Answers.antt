@@ -36,7 +36,7 @@ returns-in-Ok-clause-done g c =
       end,
       rw kept.1 at.1,
       result_from _ (world_of _ old) (world_of _ begun) (world_of _ c.tell_result.new.self) at.0.1 c.at_desk.ensures.untold _ _ _ _
-      (rw (c.deref.ensures.value, c.differs_cause.ensures) at c.tell_result.ensures.told),
+          (rw (c.deref.ensures.value, c.differs_cause.ensures) at c.tell_result.ensures.told),
     )
 
 pub returns-in-Err-clause-kept : goal.returns-in-Err-clause-kept

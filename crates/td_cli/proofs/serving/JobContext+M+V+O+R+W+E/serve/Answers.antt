@@ -10,7 +10,7 @@ returns-then-first-clause-done g c =
     rw c.if-first.true (
       end.result,
       left_later _ c.args.office.country (world_of _ c.args.self.now) (world_of _ end.new.self) _ refl refl
-      _ _ c.args.records.now (option_map string_bytes c.args.journal.now) end.result end.ensures.done,
+          _ _ c.args.records.now (option_map string_bytes c.args.journal.now) end.result end.ensures.done,
       rw (end.ensures.untold, c.standby_cause.ensures) at c.exit.ensures,
     )
 
@@ -20,6 +20,6 @@ returns-else-first-clause-done g c =
     rw c.if-first.false (
       end.result,
       left_later _ c.args.office.country (world_of _ c.args.self.now) (world_of _ end.new.self) _ refl refl
-      _ _ c.args.records.now (option_map string_bytes c.args.journal.now) end.result end.ensures.done,
+          _ _ c.args.records.now (option_map string_bytes c.args.journal.now) end.result end.ensures.done,
       rw (end.ensures.untold, c.serving_cause.ensures) at c.exit-else-first.ensures,
     )
