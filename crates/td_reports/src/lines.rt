@@ -10,6 +10,9 @@ use td_guarantee::{Guarantee, guaranteed};
 use td_movement::{Overdue, is_overdue};
 use td_store_rows::MovementDeadlines;
 
+// The bytes for which memory is taken at once for a line: no line is longer.
+const LINE_CAPACITY: usize = 120;
+
 // How many days a day lies behind another one, or 0.
 fn days_past(due: Day, day: Day) -> u64
     ensures { result ≡ day - due }
@@ -31,13 +34,16 @@ fn line_of_overdue(
         Overdue::Arrival(due) => ("arrival", due),
         Overdue::Control(due) => ("control", due),
     };
-    format!(in alloc;
-        "{} {} {kind} {:<8} {due} {:>5}\n",
+    let mut line = String::with_capacity(alloc, LINE_CAPACITY)?;
+    writeln!(
+        line,
+        "{} {} {kind} {:<8} {due} {:>5}",
         movement.mrn,
         movement.holder,
         movement.state.name(),
         days_past(due, day)
-    )
+    )?;
+    Ok(line)
 }
 
 /// The line of a movement with these deadlines in the report of that day, if it is overdue then: only for a line memory is taken.
@@ -94,7 +100,13 @@ pub(crate) fn guarantee_line(
     ensures { IfOk result (λ line. string_bytes line ≡ guarantee_line (holder, (guarantee.now, used))) }
 {
     let reference = guarantee.reference;
-    let mut line = format!(in alloc; "{} {holder} {:>3}", guarantee.grn, guarantee.cover.get())?;
+    let mut line = String::with_capacity(alloc, LINE_CAPACITY)?;
+    write!(
+        line,
+        "{} {holder} {:>3}",
+        guarantee.grn,
+        guarantee.cover.get()
+    )?;
     add_amount(&mut line, reference)?;
     add_amount(&mut line, guaranteed(reference, guarantee.cover))?;
     add_amount(&mut line, used)?;
