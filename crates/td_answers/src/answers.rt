@@ -152,14 +152,34 @@ impl ToJson for WebFault {
     }
 }
 
-/// The bytes for which memory is taken at once for a body. A longer body takes more as it is written.
+/// The bytes for which memory is taken at once for a body, beside what it lists. A longer body takes more as it is written.
 const BODY_CAPACITY: usize = 1000;
+/// The same for each movement in a list: few take more.
+const LISTED_MOVEMENT_CAPACITY: usize = 80;
+/// The same for each guarantee in a list, with an access code.
+const LISTED_GUARANTEE_CAPACITY: usize = 150;
 
-/// The body that tells it, as JSON.
-fn body_of<T: ToJson>(alloc: Global, said: &T) -> Result<String, AllocError>
+// The bytes for which memory is taken at once for the body that tells it.
+fn capacity_of(said: &Said) -> usize {
+    let listed = match said {
+        Said::Answered(Answer::Movements(movements)) => {
+            let count = movements.as_slice().len();
+            count.saturating_mul(LISTED_MOVEMENT_CAPACITY)
+        }
+        Said::Answered(Answer::Guarantees(guarantees)) => {
+            let count = guarantees.as_slice().len();
+            count.saturating_mul(LISTED_GUARANTEE_CAPACITY)
+        }
+        _ => 0,
+    };
+    listed.saturating_add(BODY_CAPACITY)
+}
+
+/// The body that tells it, as JSON, in a text that has that capacity at first.
+fn body_of<T: ToJson>(alloc: Global, said: &T, capacity: usize) -> Result<String, AllocError>
     ensures { IfOk result (λ s. string_bytes s ≡ compact_text (T.shown said.now)) }
 {
-    let mut text = String::with_capacity(alloc, BODY_CAPACITY)?;
+    let mut text = String::with_capacity(alloc, capacity)?;
     write!(text, "{}", Json(said))?;
     Ok(text)
 }
@@ -201,7 +221,7 @@ pub fn reply_bytes(alloc: Global, said: &Said, close: bool) -> Result<Vec<u8>, A
 pub fn said_body(alloc: Global, said: &Said) -> Result<String, AllocError>
     ensures { IfOk result (λ text. string_bytes text ≡ said_body said.now) }
 {
-    body_of(alloc, said)
+    body_of(alloc, said, capacity_of(said))
 }
 
 // Whether the stream stops after the reply.
@@ -220,7 +240,7 @@ pub fn fault_bytes(alloc: Global, fault: &WebFault, close: bool) -> Result<Vec<u
     ensures told { IfOk result (λ v. v.items ≡ fault_reply fault.now close) }
     ensures no_memory { fault.now ≡ NoMemory → IfOk result (λ v. v.items ≡ no_memory_reply) }
 {
-    let body = body_of(alloc, fault)?;
+    let body = body_of(alloc, fault, BODY_CAPACITY)?;
     let close = stops_after(fault, close);
     json_reply(alloc, fault_status_of(fault), fault.allow(), close, &body)
 }
