@@ -10,7 +10,6 @@ use Rattle.td_schema.specs.declared.layout.Layout.{Layout}
 use Rattle.td_store_rows.specs.Columns.{meta_row}
 use Rattle.td_store_rows.specs.StoreTables.{HoldSoundContent, country_in, tables_in}
 use Rattle.td_store.specs.Opened.{IsEarlier, MaySay, TellsAudit}
-use Rattle.td_migrate.specs.Grown.{GrowsFrom, MayLeaveGrown}
 use Rattle.td_migrate.specs.Upgraded.{HeldVersion, LeavesReached, LeavesShown, LeavesStep, MayLeaveStep, MayLeaveUpgraded, WasGrown}
 
 -- the content of a file of that version whose rows keep the rules
@@ -36,13 +35,6 @@ module _ (version : ℕ) (db : Database) (says : MaySay version db.trees) where
   held_there (inl (inl is)) = absurd cc
   held_there (inl (inr is)) = absurd cc
   held_there (inr told) = held_at told.0 told.1 told.2 told.3
-
-  -- which the step brings to the next
-  pub grown_from : (b new : Database) → b ≡ db → TellsAudit version db None → GrowsFrom version b new → WasGrown version db new
-  grown_from b new same told grows = (held_there told, subst (λ (x : Database). GrowsFrom version x new) same grows)
-
-  pub may_leave_from : (b : Database) (trees : Trees) → b ≡ db → TellsAudit version db None → MayLeaveGrown version b trees → MayLeaveStep version db trees
-  may_leave_from b trees same told grows = (held_there told, subst (λ (x : Database). MayLeaveGrown version x trees) same grows)
 
 -- a step leaves what an upgrade may leave
 pub step_leaves : (version : ℕ) → IsEarlier version → (db : Database) (trees : Trees) → MayLeaveStep version db trees → MayLeaveUpgraded db trees

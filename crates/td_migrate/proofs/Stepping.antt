@@ -1,9 +1,7 @@
 -- The steps of an upgrade one after another.
-use Rattle.std.proofs.Common.{◌≡◌, ◌∙◌, [], Err, ap, arith, inr, length, refl, subst, sym}
-use Rattle.std.specs.Prelude.{◌≤◌}
-use Rattle.std.proofs.lemmas.List.{length-map}
+use Rattle.std.proofs.Common.{◌≡◌, ◌⊎◌, ◌∙◌, ℕ, [], Result, Ok, Err, arith, inl, inr, refl, subst, sym}
+use Rattle.std.specs.Prelude.{IfErr, OnOk}
 use Rattle.sqlite_trees.specs.Tree.{Trees}
-use Rattle.sqlite_schema.specs.declared.schema.Schema.{Schema}
 use Rattle.sqlite.specs.Effect.{Database}
 use Rattle.sqlite.specs.State.{State}
 use Rattle.td_desk.specs.Content.{Content}
@@ -11,17 +9,10 @@ use Rattle.td_table_model.specs.Tables.{first_version, version_with_amounts}
 use Rattle.td_schema.specs.Layouts.{grown, schema_of, version_of}
 use Rattle.td_schema.specs.declared.layout.Layout.{Layout}
 use Rattle.td_schema.specs.declared.layout.Layout.TheVariants.{Made1, Made2, Grown2, Made3, Grown3From2, Grown3From1}
-use Rattle.typed_sql.specs.Typed.{row_of, typed_rows}
-use Rattle.td_store_rows.specs.Columns.{meta_typing}
 use Rattle.td_store_rows.specs.StoreTables.{AreTreesOf, HasOfficeRow}
-use Rattle.td_store_audit_rows.specs.Laws.{ContentKeepsRules}
-use Rattle.td_store_audit_rows.specs.Untyped.{IsFirstBrokenUntyped}
-use Rattle.td_store.specs.Opened.{MaySay}
-use Rattle.td_table_model.specs.declared.rule.Rule.{Rule}
 use Rattle.td_migrate.specs.declared.fault.MigrateFault.{MigrateFault}
-use Rattle.td_migrate.specs.declared.fault.MigrateFault.TheVariants.{Damaged, NoMemory, Store, UnknownVersion}
 use Rattle.td_migrate.specs.Grown.{AreGrown, HoldsVersion, IsGrownFile, LeavesEmpty}
-use Rattle.td_migrate.specs.Upgraded.{AreUpgraded, IsDamagedAt, LeavesAllEmpty, LeavesWithFault, MayLeaveStep, MayLeaveUpgraded, TellsStep, TellsUpgrade, WasGrown, WasUpgraded}
+use Rattle.td_migrate.specs.Upgraded.{AreUpgraded, LeavesAllEmpty, LeavesWithFault, MayLeaveStep, MayLeaveUpgraded, SaysNothing, TellsStep, TellsUpgrade, WasGrown, WasUpgraded}
 use Rattle.td_migrate.proofs.Second.{of_second, second_layout}
 
 -- trees that grew to a layout of the newest version are a desk's
@@ -87,11 +78,7 @@ module _ (old mid : Database) (was : WasFirst old mid) where
   abbrev c : Content
   c = was.content
 
-  -- the office's own row says version 2 then
-  pub says_second : MaySay version_with_amounts mid.trees
-  says_second = λ typed. (c.country, was.became.content.office)
-
-  -- and the second step brings it to the newest
+  -- the second step brings it to the newest
   are_upgraded : (trees : Trees) → AreGrown Grown2 c mid.trees trees → AreUpgraded Made1 c old.trees trees
   are_upgraded trees are = record {
     desk = desk_trees Grown2 refl c mid.trees trees are;
@@ -114,32 +101,22 @@ module _ (old mid : Database) (was : WasFirst old mid) where
   second_leaves trees may =
       (Made1, c, record { earlier = omega arith; held = was.held }, inr (are_upgraded trees (may.1 Grown2 refl c was.became)))
 
-  -- the rows of that file keep the rules, so the second step isn't refused for damage
-  one_row : length (mid.trees meta_typing.table.tree) ≤ 1
-  one_row =
-      let rows : length (typed_rows meta_typing mid.trees) ≡ 1 = ap length was.became.content.office in
-      omega (arith, rows, length-map (mid.trees meta_typing.table.tree) (row_of meta_typing))
+-- what a step tells: it was done, or its fault says nothing of the file
+pub step_told : (version : ℕ) (old : Database) (new : State) (result : Result (Unit {0}) MigrateFault) → OnOk result (WasGrown version old new.now)
+    → IfErr result SaysNothing → TellsStep version old new result
+step_told version old new (Ok done) grown says = grown
+step_told version old new (Err fault) grown (inl is) = subst (λ f. TellsStep version old new (Err f)) (sym is) tt
+step_told version old new (Err fault) grown (inr is) = subst (λ f. TellsStep version old new (Err f)) (sym is) tt
 
-  of_other : (rule : Rule) → ContentKeepsRules → (l : Layout) → version_of l ≡ version_with_amounts → mid.schema ≡ schema_of l
-      → ¬ IsFirstBrokenUntyped l mid.trees rule
-  of_other rule keep = of_second (λ l. mid.schema ≡ schema_of l → ¬ IsFirstBrokenUntyped l mid.trees rule)
-      (λ has. absurd (let many = ap (λ (s : Schema). length s.tables) (sym has ∙ was.became.schema) in cc))
-      (λ has first. first.broken (keep Grown2 mid.trees c was.became.content.typed one_row was.became.content.sound was.became.content.tables rule))
-
-  never_damaged : (rule : Rule) → ContentKeepsRules → ¬ IsDamagedAt version_with_amounts rule mid
-  never_damaged rule keep damaged = of_other rule keep damaged.layout damaged.version_is damaged.schema damaged.first
-
-  pub second_fault : ContentKeepsRules → (new : State) (fault : MigrateFault) → TellsStep version_with_amounts mid new (Err fault)
-      → TellsUpgrade old new (Err fault)
-  second_fault keep new UnknownVersion told = absurd told
-  second_fault keep new (Damaged rule) told = absurd (never_damaged rule keep told)
-  second_fault keep new Store told = tt
-  second_fault keep new NoMemory told = tt
+-- nor does an upgrade tell anything of the file by such a fault
+pub nothing_told : (old : Database) (new : State) (fault : MigrateFault) → SaysNothing fault → TellsUpgrade old new (Err fault)
+nothing_told old new fault (inl is) = subst (λ f. TellsUpgrade old new (Err f)) (sym is) tt
+nothing_told old new fault (inr is) = subst (λ f. TellsUpgrade old new (Err f)) (sym is) tt
 
 -- what a fault of the second step leaves
-pub second_left : (old mid : Database) → WasGrown first_version old mid → ContentKeepsRules → (new : State) (fault : MigrateFault)
-    → TellsStep version_with_amounts mid new (Err fault) → new.now ≡ mid → LeavesWithFault old new.now fault
-second_left old mid was keep new UnknownVersion told same = absurd told
-second_left old mid was keep new (Damaged rule) told same = absurd (never_damaged old mid (first_was old mid was) rule keep told)
-second_left old mid was keep new Store told same = inr (subst (λ (x : Database). WasGrown first_version old x) (sym same) was)
-second_left old mid was keep new NoMemory told same = inr (subst (λ (x : Database). WasGrown first_version old x) (sym same) was)
+pub second_left : (old mid : Database) → WasGrown first_version old mid → (new : State) (fault : MigrateFault) → SaysNothing fault → new.now ≡ mid
+    → LeavesWithFault old new.now fault
+second_left old mid was new fault (inl is) same =
+    subst (λ f. LeavesWithFault old new.now f) (sym is) (inr (subst (λ (x : Database). WasGrown first_version old x) (sym same) was))
+second_left old mid was new fault (inr is) same =
+    subst (λ f. LeavesWithFault old new.now f) (sym is) (inr (subst (λ (x : Database). WasGrown first_version old x) (sym same) was))

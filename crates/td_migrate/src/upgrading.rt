@@ -5,7 +5,7 @@ ghost use Rattle.sqlite.specs.State.{HasCleanDisk, Survives};
 ghost use Rattle.typed_sql.specs.Outside.{CrashLeavesShown, Looks};
 ghost use Rattle.td_store.specs.Opened.{IsEarlier, IsOfEarlier, MaySay};
 ghost use Rattle.td_table_model.specs.Tables.{first_version, version_with_amounts};
-ghost use Rattle.td_migrate.specs.Upgraded.{LeavesReached, LeavesShown, LeavesWithFault, MayLeaveStep, MayLeaveUpgraded, TellsStep, TellsUpgrade, TellsVersion};
+ghost use Rattle.td_migrate.specs.Upgraded.{HeldVersion, LeavesReached, LeavesShown, LeavesWithFault, MayLeaveStep, MayLeaveUpgraded, TellsStep, SaysNothing, TellsUpgrade, TellsVersion, WasGrown};
 
 use crate::fault::{MigrateFault, fault_of, fault_of_error};
 use crate::growing::grow;
@@ -31,6 +31,32 @@ pub fn version<S: Alter>(alloc: Global, conn: &mut Connection<S>) -> Result<u32,
     }
 }
 
+// From a version to the next, in a file whose rows are known to keep the rules.
+fn step_of_sound<S: Alter>(
+    alloc: Global,
+    conn: &mut Connection<S>,
+    version: u32,
+) -> Result<(), MigrateFault>
+    requires outside { conn.old.in_transaction ≡ false }
+    requires earlier { IsEarlier version }
+    requires held { HasCleanDisk (state S.Store conn.old) → HeldVersion version (state S.Store conn.old).now }
+    ensures ended { conn.new.in_transaction ≡ false }
+    ensures live { HasCleanDisk (state S.Store conn.new) → IsTrue (state S.Store conn.new).is_open → IsTrue (state S.Store conn.old).is_open }
+    ensures shown { HasCleanDisk (state S.Store conn.new)
+        → OnOk result (IsTrue (state S.Store conn.old).is_open × IsTrue (state S.Store conn.new).is_open) }
+    ensures grown { HasCleanDisk (state S.Store conn.new)
+        → OnOk result (WasGrown version (state S.Store conn.old).now (state S.Store conn.new).now) }
+    ensures fault { IfErr result SaysNothing }
+    ensures err { HasCleanDisk (state S.Store conn.new) → IsTrue (state S.Store conn.new).is_open
+        → OnErr result ((state S.Store conn.new).now ≡ (state S.Store conn.old).now) }
+    ensures crash { Survives (state S.Store conn.old) (state S.Store conn.new) (MayLeaveStep version (state S.Store conn.old).now) }
+{
+    match grow(alloc, conn, version) {
+        Ok(()) => Ok(()),
+        Err(error) => Err(fault_of_error(&error)),
+    }
+}
+
 // From a version to the next, after the rows were audited.
 fn step<S: Alter>(alloc: Global, conn: &mut Connection<S>, version: u32) -> Result<(), MigrateFault>
     requires outside { conn.old.in_transaction ≡ false }
@@ -49,10 +75,7 @@ fn step<S: Alter>(alloc: Global, conn: &mut Connection<S>, version: u32) -> Resu
     if let Err(fault) = audit(alloc, conn, version) {
         return Err(fault_of(fault));
     }
-    match grow(alloc, conn, version) {
-        Ok(()) => Ok(()),
-        Err(error) => Err(fault_of_error(&error)),
-    }
+    step_of_sound(alloc, conn, version)
 }
 
 // From version 2 to the newest.
@@ -74,8 +97,7 @@ fn last_step<S: Alter>(alloc: Global, conn: &mut Connection<S>) -> Result<u32, M
     Ok(NEWEST_VERSION)
 }
 
-// From version 1 to the newest, by way of version 2: the rows keep the rules then, so that the second step isn't refused
-// for damage.
+// From version 1 to the newest, by way of version 2: its rows are those that were audited, so they aren't audited again.
 fn two_steps<S: Alter>(alloc: Global, conn: &mut Connection<S>) -> Result<u32, MigrateFault>
     requires outside { conn.old.in_transaction ≡ false }
     requires says { HasCleanDisk (state S.Store conn.old) → MaySay first_version (state S.Store conn.old).now.trees }
@@ -92,7 +114,7 @@ fn two_steps<S: Alter>(alloc: Global, conn: &mut Connection<S>) -> Result<u32, M
 {
     step(alloc, conn, FIRST_VERSION)?;
     see_settled(conn);
-    step(alloc, conn, VERSION_WITH_AMOUNTS)?;
+    step_of_sound(alloc, conn, VERSION_WITH_AMOUNTS)?;
     Ok(NEWEST_VERSION)
 }
 
@@ -143,7 +165,7 @@ fn go_on<S: Alter>(alloc: Global, conn: &mut Connection<S>) -> Result<u32, Migra
 }
 
 /// Brings a file to the newest version of the tables, and answers that: one transaction for each version, whole or not begun, after
-/// the rows of the version before were audited. A file of the newest version is left as it is, and its rows aren't audited.
+/// its rows were audited once. A file of the newest version is left as it is, and its rows aren't audited.
 /// `UnknownVersion`: as `version` says; `Damaged`: the rows break this rule of sound tables, and none before it; `Store`: the tables
 /// are none of the version that the office's own row says, or the database answered an error other than want of memory; `NoMemory`:
 /// want of memory. With a fault the file is as it was found; or, with one of the last two, a file of version 1 may be of version 2 with

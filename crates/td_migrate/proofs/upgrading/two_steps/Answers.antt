@@ -6,10 +6,10 @@ use Rattle.sqlite.proofs.StateLemmas.{survives_then, survives_weaker}
 use Rattle.td_table_model.specs.Tables.{first_version, version_with_amounts}
 use Rattle.td_store.specs.Opened.{IsEarlier}
 use Rattle.typed_sql.specs.Outside.{CrashLeavesShown}
-use Rattle.td_store_audit_rows.proofs.Raw.{content_keeps}
+use Rattle.td_schema.specs.declared.layout.Layout.TheVariants.{Grown2}
 use Rattle.td_migrate.specs.Upgraded.{LeavesReached, LeavesShown, MayLeaveStep, MayLeaveUpgraded, WasGrown}
 use Rattle.td_migrate.proofs.Reached.{reached_one, reached_two, step_leaves}
-use Rattle.td_migrate.proofs.Stepping.{first_was, says_second, second_fault, second_leaves, second_left, upgraded_from_first}
+use Rattle.td_migrate.proofs.Stepping.{first_was, nothing_told, second_leaves, second_left, upgraded_from_first}
 use Rattle.td_migrate.proofs.upgrading.two_steps.Goals as goal
 
 earlier : IsEarlier first_version
@@ -30,48 +30,46 @@ returns-in_err-step-clause-crash g c =
     survives_weaker o b (MayLeaveStep first_version o.now) (MayLeaveUpgraded o.now)
     (λ clean trees may. step_leaves first_version earlier o.now trees may) c.step.ensures.crash
 
-pub step-requires-2-clause-says : goal.step-requires-2-clause-says
-step-requires-2-clause-says g c clean =
+pub step_of_sound-requires-clause-held : goal.step_of_sound-requires-clause-held
+step_of_sound-requires-clause-held g c clean =
     let o : State = state g.S.Store c.args.conn.now in
     let b : State = state g.S.Store c.step.new.conn in
-    says_second o.now b.now (first_was o.now b.now (c.in_ok-step.ensures.told clean))
+    let was = first_was o.now b.now (c.in_ok-step.ensures.told clean) in
+    (Grown2, refl, was.content, was.became)
 
-pub returns-in_err-step-2-clause-told : goal.returns-in_err-step-2-clause-told
-returns-in_err-step-2-clause-told g c clean =
+pub returns-in_err-step_of_sound-clause-told : goal.returns-in_err-step_of_sound-clause-told
+returns-in_err-step_of_sound-clause-told g c clean =
     let o : State = state g.S.Store c.args.conn.now in
-    let b : State = state g.S.Store c.step.new.conn in
-    let d : State = state g.S.Store c.step-2.new.conn in
-    let clean_b : HasCleanDisk b = omega (arith, clean, c.step-2.ensures.crash.clean) in
-    let told = second_fault o.now b.now (first_was o.now b.now (c.in_ok-step.ensures.told clean_b)) content_keeps d
-    c.in_err-step-2.field-0.0 (c.in_err-step-2.ensures.told clean) in
+    let d : State = state g.S.Store c.step_of_sound.new.conn in
+    let told = nothing_told o.now d c.in_err-step_of_sound.field-0.0 c.in_err-step_of_sound.ensures.fault in
     search (rules, told)
 
-pub returns-in_err-step-2-clause-crash : goal.returns-in_err-step-2-clause-crash
-returns-in_err-step-2-clause-crash g c =
-    steps_leave (state g.S.Store c.args.conn.now) (state g.S.Store c.step.new.conn) (state g.S.Store c.step-2.new.conn)
-    c.in_ok-step.ensures.told c.step.ensures.crash c.step-2.ensures.crash
+pub returns-in_err-step_of_sound-clause-crash : goal.returns-in_err-step_of_sound-clause-crash
+returns-in_err-step_of_sound-clause-crash g c =
+    steps_leave (state g.S.Store c.args.conn.now) (state g.S.Store c.step.new.conn) (state g.S.Store c.step_of_sound.new.conn)
+    c.in_ok-step.ensures.told c.step.ensures.crash c.step_of_sound.ensures.crash
 
 pub returns-clause-told : goal.returns-clause-told
 returns-clause-told g c clean =
     let o : State = state g.S.Store c.args.conn.now in
     let b : State = state g.S.Store c.step.new.conn in
-    let d : State = state g.S.Store c.step-2.new.conn in
-    let clean_b : HasCleanDisk b = omega (arith, clean, c.step-2.ensures.crash.clean) in
-    (refl, inr (upgraded_from_first o.now b.now (first_was o.now b.now (c.in_ok-step.ensures.told clean_b)) d (c.in_ok-step-2.ensures.told clean)))
+    let d : State = state g.S.Store c.step_of_sound.new.conn in
+    let clean_b : HasCleanDisk b = omega (arith, clean, c.step_of_sound.ensures.crash.clean) in
+    (refl, inr (upgraded_from_first o.now b.now (first_was o.now b.now (c.in_ok-step.ensures.told clean_b)) d (c.in_ok-step_of_sound.ensures.grown clean)))
 
 pub returns-clause-crash : goal.returns-clause-crash
 returns-clause-crash g c =
-    steps_leave (state g.S.Store c.args.conn.now) (state g.S.Store c.step.new.conn) (state g.S.Store c.step-2.new.conn)
-    c.in_ok-step.ensures.told c.step.ensures.crash c.step-2.ensures.crash
+    steps_leave (state g.S.Store c.args.conn.now) (state g.S.Store c.step.new.conn) (state g.S.Store c.step_of_sound.new.conn)
+    c.in_ok-step.ensures.told c.step.ensures.crash c.step_of_sound.ensures.crash
 
-pub returns-in_err-step-2-clause-left : goal.returns-in_err-step-2-clause-left
-returns-in_err-step-2-clause-left g c clean is_open =
+pub returns-in_err-step_of_sound-clause-left : goal.returns-in_err-step_of_sound-clause-left
+returns-in_err-step_of_sound-clause-left g c clean is_open =
     let o : State = state g.S.Store c.args.conn.now in
     let b : State = state g.S.Store c.step.new.conn in
-    let d : State = state g.S.Store c.step-2.new.conn in
-    let clean_b : HasCleanDisk b = omega (arith, clean, c.step-2.ensures.crash.clean) in
-    let told = second_left o.now b.now (c.in_ok-step.ensures.told clean_b) content_keeps d c.in_err-step-2.field-0.0
-    (c.in_err-step-2.ensures.told clean) (c.in_err-step-2.ensures.err clean is_open) in
+    let d : State = state g.S.Store c.step_of_sound.new.conn in
+    let clean_b : HasCleanDisk b = omega (arith, clean, c.step_of_sound.ensures.crash.clean) in
+    let told = second_left o.now b.now (c.in_ok-step.ensures.told clean_b) d c.in_err-step_of_sound.field-0.0
+    c.in_err-step_of_sound.ensures.fault (c.in_err-step_of_sound.ensures.err clean is_open) in
     search (rules, told)
 
 pub returns-in_err-step-clause-reached : goal.returns-in_err-step-clause-reached
@@ -90,12 +88,12 @@ module _ (o b d : State) (was : HasCleanDisk b → WasGrown first_version o.now 
   second_reached : LeavesReached o.now d.may_leave
   second_reached = reached_two o b d (was clean_b) after_first crash clean
 
-pub returns-in_err-step-2-clause-reached : goal.returns-in_err-step-2-clause-reached
-returns-in_err-step-2-clause-reached g c clean before =
-    second_reached (state g.S.Store c.args.conn.now) (state g.S.Store c.step.new.conn) (state g.S.Store c.step-2.new.conn)
-    c.in_ok-step.ensures.told (λ clean_b. (c.in_ok-step.ensures.shown clean_b).1) c.see_settled.ensures.settled c.step-2.ensures.crash clean
+pub returns-in_err-step_of_sound-clause-reached : goal.returns-in_err-step_of_sound-clause-reached
+returns-in_err-step_of_sound-clause-reached g c clean before =
+    second_reached (state g.S.Store c.args.conn.now) (state g.S.Store c.step.new.conn) (state g.S.Store c.step_of_sound.new.conn)
+    c.in_ok-step.ensures.told (λ clean_b. (c.in_ok-step.ensures.shown clean_b).1) c.see_settled.ensures.settled c.step_of_sound.ensures.crash clean
 
 pub returns-clause-reached : goal.returns-clause-reached
 returns-clause-reached g c clean before =
-    second_reached (state g.S.Store c.args.conn.now) (state g.S.Store c.step.new.conn) (state g.S.Store c.step-2.new.conn)
-    c.in_ok-step.ensures.told (λ clean_b. (c.in_ok-step.ensures.shown clean_b).1) c.see_settled.ensures.settled c.step-2.ensures.crash clean
+    second_reached (state g.S.Store c.args.conn.now) (state g.S.Store c.step.new.conn) (state g.S.Store c.step_of_sound.new.conn)
+    c.in_ok-step.ensures.told (λ clean_b. (c.in_ok-step.ensures.shown clean_b).1) c.see_settled.ensures.settled c.step_of_sound.ensures.crash clean
