@@ -148,7 +148,8 @@ fn first_of_movements<S: Alter>(
     first_of_use(alloc, tx, version, &parts, end)
 }
 
-// The same of the rules from S7 on, by what the rules of movements and of lines handed on of the holder.
+// The same of the rules from S7 on, by what the rules of movements and of lines handed on of the holder. S8 is asked of a file of
+// version 1 alone.
 fn first_of_use<S: Alter>(
     alloc: Global,
     tx: &mut Transaction<'_, S>,
@@ -168,6 +169,10 @@ fn first_of_use<S: Alter>(
     }
     if !keeps_amounts(alloc, tx, version, parts)? {
         return Ok(Some(Rule::S7));
+    }
+    if version >= VERSION_WITH_AMOUNTS {
+        // S8 is kept with S7: the table checks that no amount in use is above its reference amount
+        return Ok(end);
     }
     if !comes_before(Rule::S8, end) {
         return Ok(end);

@@ -1,12 +1,13 @@
 -- The rules from S5 on, asked of one holder: those from S7 on by what those before them handed on.
-use Rattle.std.proofs.Common.{◌≡◌, ℕ, Bool, false, List, Ok, Err, Option, Result, Some, arith, refl, subst, sym}
-use Rattle.std.specs.Prelude.{◌↔◌, IfOk, IsTrue}
+use Rattle.std.proofs.Common.{◌≡◌, ℕ, Bool, false, true, List, Ok, Err, Option, Result, Some, arith, refl, subst, sym}
+use Rattle.std.specs.Prelude.{◌↔◌, ◌≤◌, IfOk, IsTrue}
 use Rattle.sqlite_trees.specs.Tree.{Trees}
 use Rattle.sqlite.specs.State.{State}
 use Rattle.sqlite.specs.declared.error.Error.{Error}
 use Rattle.td_table_model.specs.declared.rule.Rule.{Rule}
 use Rattle.td_table_model.specs.declared.rule.Rule.TheVariants.{S3, S5, S6, S7, S8}
 use Rattle.td_table_model.specs.Gathering.{part}
+use Rattle.td_table_model.specs.Tables.{version_with_amounts}
 use Rattle.typed_sql.specs.Typed.{AreTyped, typed_rows}
 use Rattle.td_schema.specs.declared.layout.Layout.{Layout}
 use Rattle.td_store_rows.specs.Columns.{line_typing, movement_typing}
@@ -20,6 +21,7 @@ use Rattle.td_store_audit.specs.Premises.{HasLinesInPlace}
 use Rattle.td_store_audit.specs.Tallies.{AreCounting, AreItsTotals, IsHandedOn, raw_holder_of}
 use Rattle.td_store_audit.specs.declared.tallies.HolderTotals.{HolderTotals}
 use Rattle.td_store_audit.proofs.AskedRules.{AreSoUpTo, ComesFirst, Tells, breaks, ends, goes_on, stops, told_after}
+use Rattle.td_store_audit.proofs.CoveredByUse.{covered_by_use}
 use Rattle.td_store_audit.proofs.Reading.{none_read_in, so_before}
 use Rattle.td_store_audit.proofs.TypedFor.{handed_on, lines_apart, lines_typed, movements_typed}
 
@@ -138,6 +140,12 @@ module _ (version : ℕ) (country : List ℕ) (parts : HolderTotals) (end : Opti
 
   pub use_up_to_S8 : (keeps : Bool) → IsTrue keeps → TellsAmounts keeps → UseUpTo S8
   use_up_to_S8 keeps is told = goes_on AtUse AskedBy PartsKeep end a S7 S8 refl keeps is (amounts_told keeps told) use_up_to_S7
+
+  -- where a file keeps amounts in use, S8 is kept with S7
+  pub covered_told : version_with_amounts ≤ version → (keeps : Bool) → IsTrue keeps → TellsAmounts keeps → Tells AtUse AskedBy PartsKeep end a S8 true
+  covered_told least keeps is told layout own has q =
+      let keep : KeepsUse layout = omega (arith, least, own) in
+      (λ _. covered_by_use layout a.now.trees (raw_holder_of parts) (q.handed.within keep) ((told layout own has q.handed).0 is keep), λ _. refl)
 
   pub cover_told : (keeps : Bool) (b : State) → OnlyReadIn AtUse a b
       → TellsWhere AtUse (λ layout trees. IsHandedOn layout trees parts) (λ layout trees. IsHolderCoveredInFile layout trees (raw_holder_of parts)) b keeps

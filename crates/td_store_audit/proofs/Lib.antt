@@ -40,6 +40,7 @@ mod RangesTold
 mod OfficeRow
 mod FirstRule
 mod TypedFor
+mod CoveredByUse
 mod AskedRules
 pub mod AskedHolder
 pub mod AskedParts

@@ -71,6 +71,7 @@ module _ (end : Option Rule) (layout : Layout) (trees : Trees) (is : IsAskable e
         placed = (country, placed);
         guarantees = guarantees_typed third;
         kept = amounts_typed third;
+        within = λ keep. (is.kept.amounts keep (is.typed S3 third)).within;
         apart = (movements_typed (before_on S5 S6 end (omega arith) before)).apart parts.movements.raw.holder;
         counting = counting;
         totals = totals;

@@ -13,6 +13,7 @@ use Rattle.td_store_rows.specs.MovementTable.{serial_of_stored}
 use Rattle.td_store_rows.specs.StoreReads.{KeepsUse}
 use Rattle.td_store_rows.specs.StoreTables.{tables_in}
 use Rattle.td_store_audit.specs.Totals.{AreTotals, sum_on}
+use Rattle.td_store_audit_rows.specs.Kept.{AreWithinReference}
 use Rattle.td_store_audit_rows.specs.declared.holders.RawHolder.{RawHolder}
 use Rattle.td_store_audit.specs.InFile.{AreTypedApart, HasGuaranteesInPlace}
 use Rattle.td_store_audit.specs.declared.tallies.CountingSerials.{CountingSerials}
@@ -39,11 +40,12 @@ abbrev pub AreItsTotals : Layout → Trees → CountingSerials → Totals → Ty
 AreItsTotals layout trees h totals = AreTotals (λ n. sum_on n h.serials.items (part h.raw.holder (tables_in layout trees).lines)) totals
 
 -- what was handed on of a holder is so, and the holder's guarantees are in their places, and typed, with the amounts in use where a
--- file keeps them
+-- file keeps them: none of these is above the reference amount
 pub record IsHandedOn (layout : Layout) (trees : Trees) (h : HolderTotals) : Type 0 where
   pub placed : (country : List ℕ) × HasGuaranteesInPlace layout country trees (raw_holder_of h)
   pub guarantees : AreTypedApart (guarantee_typing layout) trees
   pub kept : KeepsUse layout → AreTypedApart (kept_typing layout) trees
+  pub within : KeepsUse layout → AreWithinReference (tables_in layout trees)
   pub apart : IsApart place (part h.movements.raw.holder (tables_in layout trees).movements)
   pub counting : AreCounting layout trees h.movements
   pub totals : AreItsTotals layout trees h.movements h.totals

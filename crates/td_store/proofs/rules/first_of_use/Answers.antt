@@ -1,6 +1,8 @@
-use Rattle.std.proofs.Common.{arith, refl}
+use Rattle.std.proofs.Common.{arith, refl, true}
+use Rattle.std.specs.Prelude.{◌≤◌}
 use Rattle.sqlite.specs.Held.{state}
 use Rattle.sqlite.specs.State.{State, HasCleanDisk}
+use Rattle.td_table_model.specs.Tables.{version_with_amounts}
 use Rattle.td_table_model.specs.declared.rule.Rule.TheVariants.{S7, S8}
 use Rattle.td_store_rows.proofs.StoreReads.{reads_on}
 use Rattle.td_store_audit.proofs.AskedParts as asked
@@ -19,6 +21,17 @@ returns-then-not-branch-clause-told g c clean country =
     asked.use_breaks_at c.args.version country c.args.parts.now c.args.end a S7 c.in_ok-keeps_amounts.field-0 c.if-not-branch.true
     (asked.amounts_told c.args.version country c.args.parts.now c.args.end a c.in_ok-keeps_amounts.field-0 (c.in_ok-keeps_amounts.ensures.told clean))
     (asked.use_up_to_S7 c.args.version country c.args.parts.now c.args.end a) (c.comes_before.ensures.0 c.if-not-comes_before.false)
+  where
+    a : State
+    a = state g.S.Store c.args.tx.now.conn.now
+
+pub returns-then-version-ge-VERSION_WITH_AMOUNTS-clause-told : goal.returns-then-version-ge-VERSION_WITH_AMOUNTS-clause-told
+returns-then-version-ge-VERSION_WITH_AMOUNTS-clause-told g c clean country =
+    let least : version_with_amounts ≤ c.args.version = omega (arith, c.if-version-ge-VERSION_WITH_AMOUNTS.true) in
+    let told = c.in_ok-keeps_amounts.ensures.told clean in
+    asked.use_ends c.args.version country c.args.parts.now c.args.end a true refl
+    (asked.covered_told c.args.version country c.args.parts.now c.args.end a least c.in_ok-keeps_amounts.field-0 c.if-not-branch.false told)
+    (asked.use_up_to_S8 c.args.version country c.args.parts.now c.args.end a c.in_ok-keeps_amounts.field-0 c.if-not-branch.false told)
   where
     a : State
     a = state g.S.Store c.args.tx.now.conn.now
