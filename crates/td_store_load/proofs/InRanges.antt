@@ -164,7 +164,7 @@ no_kept_below_first H a c holds =
     sym (ap (map (entry_from t)) (none_below 0 0 (kept_by H t) (in_order_rises place (part H t.kept)) (omega arith)))
 
 -- the rows that a range shows are those with serials in it
-kept_range : (H first next : ℕ) (b : State) (found : List KeptGuarantee) → AreKeptBySerial (is_within H first next) b found
+pub kept_range : (H first next : ℕ) (b : State) (found : List KeptGuarantee) → AreKeptBySerial (is_within H first next) b found
     → IsOfTables (λ t. rows_between first next (kept_by H t)) b (map kept_row_of found)
 kept_range H first next b found order c holds =
     let t : Tables = tables_in holds.trees.layout b.now.trees in

@@ -1,5 +1,6 @@
 -- What a verdict needs of a holder's rows, as the tables of a store's file say it.
 use Rattle.std.specs.Prelude.{◌≡◌, ℕ, List, Option, Some, filter_map, option_map}
+use Rattle.std.specs.List.{AllByRecursion}
 use Rattle.sqlite.specs.State.{State}
 use Rattle.td_guarantee.specs.declared.guarantee.Guarantee.{Guarantee}
 use Rattle.td_guarantee.specs.Terms.{without_codes}
@@ -12,8 +13,9 @@ use Rattle.td_model.specs.Account.{Account, guarantee_by_grn}
 use Rattle.td_acts.specs.Deciding.{IsLoaded}
 use Rattle.td_desk.specs.Content.{Content, account_in}
 use Rattle.td_table_model.specs.Tables.{Keyed, Kept, Tables, without_amount}
-use Rattle.td_table_model.specs.Gathering.{in_order, part, place, with_codes}
-use Rattle.td_store_rows.specs.StoreTables.{HoldsContent}
+use Rattle.td_table_model.specs.Gathering.{grn_by, in_order, part, place, with_codes}
+use Rattle.td_store_rows.specs.StoreTables.{HoldsContent, tables_in}
+use Rattle.td_store_rows.specs.declared.guarantees.stored.KeptGuarantee.{KeptGuarantee}
 
 -- the guarantee in a row with its codes, and the amount in use that the row keeps
 abbrev pub entry_from : Tables → Keyed Kept → Guarantee × ℕ
@@ -30,6 +32,15 @@ with_use account g = (g, used_on g.grn account.movements)
 -- the terms of an account's guarantee with a GRN, without codes, and the amount in use on it
 abbrev pub terms_in : Account → List ℕ → Option (Guarantee × ℕ)
 terms_in account grn = option_map (λ g. (without_codes g, used_on g.grn account.movements)) (guarantee_by_grn grn account.guarantees)
+
+-- a row of a guarantee says what the holder's guarantee with its serial is: its GRN, its terms, and the amount in use on it
+abbrev pub IsKeptOf : ℕ → Tables → Account → KeptGuarantee → Type 0
+IsKeptOf H t account k =
+    (k.guarantee.grn ≡ grn_by H k.serial t) × (Some (without_codes k.guarantee, k.used) ≡ terms_in account k.guarantee.grn)
+
+-- each of these rows does so, where the store holds that content
+abbrev pub AreKeptIn : ℕ → (c : Content) {s : State} → HoldsContent c s → List KeptGuarantee → Type 0
+AreKeptIn H c {s} holds kept = AllByRecursion (IsKeptOf H (tables_in holds.trees.layout s.now.trees) (account_in H c)) kept
 
 -- where the store holds a content, these are the terms of the guarantees of a holder's that lines name, as far as they are there
 abbrev pub AreTermsOf : ℕ → State → List Line → List (Guarantee × ℕ) → Type 0

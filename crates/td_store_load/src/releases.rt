@@ -1,21 +1,21 @@
-//! What a release needs of a movement: the movement with its lines, and the terms of its lines' guarantees, each read by one
-//! statement. `DatabaseCorrupt`: a row is no such row, there are several where there can be one, one doesn't stand where it was
-//! asked for, or the guarantee of a line isn't there; `OutOfMemory`: want of memory; any other error is the database's own.
-ghost use Rattle.std.specs.Prelude.{◌≡◌, Some, map, IfOk, IfSome, is_ok};
+//! What a release needs of a movement: the movement with its lines, and the terms of its lines' guarantees, which are read in ranges of
+//! serials. `DatabaseCorrupt`: a row is no such row, there are several where there can be one, one doesn't stand where it was asked
+//! for, or the guarantee of a line isn't there; `OutOfMemory`: want of memory; any other error is the database's own.
+ghost use Rattle.std.specs.Prelude.{◌≡◌, ◌==◌, ◌+◌, ◌<◌, ◌≤◌, map, find, IfOk, IfSome, is_ok};
 ghost use Rattle.std.specs.Option.{option_map};
 ghost use Rattle.sqlite.specs.Held.{state};
 ghost use Rattle.sqlite.specs.State.{HasCleanDisk};
 ghost use Rattle.td_guarantee.specs.Terms.{without_codes};
 ghost use Rattle.td_model.specs.Account.{movement_by_mrn};
 ghost use Rattle.td_desk.specs.Content.{Content, account_in};
-ghost use Rattle.td_table_model.specs.Gathering.{grn_by, with_lines};
+ghost use Rattle.td_table_model.specs.Gathering.{with_lines};
 ghost use Rattle.typed_sql.specs.Reading.{IsInside};
 ghost use Rattle.td_store_rows.specs.LineTable.{line_row_of as row_of_line};
 ghost use Rattle.td_store_rows.specs.MovementTable.{movement_row_of};
 ghost use Rattle.td_store_rows.specs.StoreReads.{ReadsNewest};
 ghost use Rattle.td_store_rows.specs.StoreTables.{HoldsContent};
 ghost use Rattle.td_store_load.specs.Loaded.{IsOfContent, IsOfTables, line_of};
-ghost use Rattle.td_store_load.specs.Needed.{AreTermsOf, terms_in};
+ghost use Rattle.td_store_load.specs.Needed.{AreKeptIn, AreTermsOf};
 
 use sqlite::{Error, ErrorCode, Transaction};
 use sqlite_trees::store::Alter;
@@ -26,32 +26,60 @@ use td_movement::{Line, Movement, MovementLines};
 use td_store_rows::{
     KeptGuarantee, StoredLine, StoredMovement, find_by_mrn, kept_within, lines_of,
 };
-use typed_sql::only;
 
-// The holder's guarantee with a serial, which a line names, and the amount in use on it.
-fn kept_by_serial<S: Alter>(
+// Guarantees of lines are read together where each line's serial is at most so far above that of the line before.
+const NEAR: u32 = 4;
+
+// So many serials are in a range that is read together, at most.
+const AT_ONCE: u32 = 64;
+
+// The serial behind the range to be read: it begins at `first`, and goes on over the serials of rows as long as they stand near each
+// other. `None`: there is no serial behind it.
+fn end_of_run(first: u32, rows: &[StoredLine]) -> Option<u32>
+    ensures { IfSome result (λ end. (first < end) × (end ≤ first + AT_ONCE)) }
+{
+    let mut last = first;
+    'rows: for row in rows {
+        let serial = row.guarantee;
+        if serial < last || serial - last > NEAR || serial - first >= AT_ONCE {
+            break;
+        }
+        last = serial;
+    }
+    last.checked_add(1)
+}
+
+// The first of guarantees with a serial.
+fn found_in(kept: &[KeptGuarantee], serial: u32) -> Option<&KeptGuarantee>
+    ensures { option_map (λ found. found.now) result ≡ find (λ k. k.serial == serial) kept.now }
+{
+    kept.iter().find(|guarantee| guarantee.serial == serial)
+}
+
+// The guarantees that were read last, where the one with a line's serial is among them; otherwise those of the range that begins at
+// that serial, for the line's row and those behind it.
+fn kept_near<S: Alter>(
     alloc: Global,
     tx: &mut Transaction<'_, S>,
     holder: HolderNo,
+    near: Vec<KeptGuarantee>,
     serial: u32,
-) -> Result<KeptGuarantee, Error>
+    rows: &[StoredLine],
+) -> Result<Vec<KeptGuarantee>, Error>
     requires { IsInside (state S.Store tx.old.conn.now) }
     ensures same_reference { tx.new.conn.ghost_name ≡ tx.old.conn.ghost_name }
-    ensures grn { HasCleanDisk (state S.Store tx.new.conn.now)
-        → IfOk result (λ kept. IsOfTables (grn_by holder serial) (state S.Store tx.old.conn.now) kept.guarantee.grn) }
-    ensures terms { HasCleanDisk (state S.Store tx.new.conn.now)
-        → IfOk result (λ kept. (c : Content) → HoldsContent c (state S.Store tx.old.conn.now)
-        → Some (without_codes kept.guarantee, kept.used) ≡ terms_in (account_in holder c) kept.guarantee.grn) }
+    ensures kept { HasCleanDisk (state S.Store tx.new.conn.now)
+        → IfOk result (λ kept. (c : Content) (holds : HoldsContent c (state S.Store tx.old.conn.now))
+        → AreKeptIn holder c holds near.items → AreKeptIn holder c holds kept.items) }
     ensures reads { ReadsNewest (is_ok result) (state S.Store tx.old.conn.now) (state S.Store tx.new.conn.now) }
 {
-    let Some(end) = serial.checked_add(1) else {
+    if found_in(&near, serial).is_some() {
+        return Ok(near);
+    }
+    let Some(end) = end_of_run(serial, rows) else {
         return Err(Error::SqliteFailure(ErrorCode::DatabaseCorrupt));
     };
-    let found = kept_within(alloc, tx, holder, serial, end)?;
-    let Some(kept) = only(found)? else {
-        return Err(Error::SqliteFailure(ErrorCode::DatabaseCorrupt));
-    };
-    Ok(kept)
+    kept_within(alloc, tx, holder, serial, end)
 }
 
 // The line in a row, on the guarantee that was found for it.
@@ -90,10 +118,14 @@ fn lines_with_terms<S: Alter>(
 {
     let mut lines = Vec::with_capacity(alloc, rows.len())?;
     let mut terms = Vec::with_capacity(alloc, rows.len())?;
-    'rows: for row in rows {
-        let kept = kept_by_serial(alloc, tx, holder, row.guarantee)?;
-        lines.push(line_on_kept(row, &kept))?;
-        terms.push(terms_in_row(alloc, &kept))?;
+    let mut near = Vec::new(alloc);
+    'rows: for (at, row) in rows.iter().enumerate() {
+        near = kept_near(alloc, tx, holder, near, row.guarantee, &rows[at..])?;
+        let Some(kept) = found_in(&near, row.guarantee) else {
+            return Err(Error::SqliteFailure(ErrorCode::DatabaseCorrupt));
+        };
+        lines.push(line_on_kept(row, kept))?;
+        terms.push(terms_in_row(alloc, kept))?;
     }
     Ok((lines, terms))
 }
