@@ -7,7 +7,7 @@ use td_machine::Drive;
 /// What a job is lent: the machine, the files that the words name, the input and both outputs. Each is lent for as long as it is,
 /// which is why it has so many lifetimes.
 #[derive(Drop)]
-pub struct Context<'m, 'f, 'g, 'i, 'o, 'e, M, V, S: Disk, O, T: Disk, R, W, E> {
+pub(crate) struct Context<'m, 'f, 'g, 'i, 'o, 'e, M, V, S: Disk, O, T: Disk, R, W, E> {
     /// Its clock is asked, its files of rows are read, and its ports are listened on.
     pub machine: &'m mut M,
     /// The desk's file: the one that the words name first. A job opens it at its path, and hands back a connection to it.
@@ -23,7 +23,7 @@ pub struct Context<'m, 'f, 'g, 'i, 'o, 'e, M, V, S: Disk, O, T: Disk, R, W, E> {
 }
 
 /// What a job is lent whose files stand on drives.
-pub type JobContext<'m, 'f, 'g, 'i, 'o, 'e, M, V, O, R, W, E> = Context<
+pub(crate) type JobContext<'m, 'f, 'g, 'i, 'o, 'e, M, V, O, R, W, E> = Context<
     'm,
     'f,
     'g,

@@ -28,7 +28,41 @@ pub fn perform<V: Drive, O: Drive, R: Read, W: Write, E: Write>(
         (record { machine = machine; input = input.old; output = out.old; errors = errors.old; file = file.old; other = other.old })
         (record { machine = machine_left; input = input.new; output = out.new; errors = errors.new; file = file.new; other = other.new }) result }
 {
-    let machine = &mut HostMachine { rt };
+    let mut machine = HostMachine { rt };
+    perform_on(
+        rt.alloc(),
+        &mut machine,
+        words,
+        file,
+        other,
+        input,
+        out,
+        errors,
+    )
+}
+
+/// Does what the words ask for on a machine, and gives the program's status. The first word is the program's name.
+///
+/// Of the machine the clock is asked, a file of rows is read and a port is listened on. `file` is the desk's file, the one that the
+/// words name first, and `other` that of `--into`, of `--with` or of `--journal`: a job opens them at their paths, and hands back
+/// connections to them. The input is read by a job alone: a stream, and a standby desk, which follows a journal by it. Replies, result
+/// files, reports, and texts that were asked for go to `out`; what is wrong with the words, or one line for a fault, to `errors`. A text
+/// that can't be written there is dropped.
+pub fn perform_on<M: Machine, V: Drive, O: Drive, R: Read, W: Write, E: Write>(
+    alloc: Global,
+    machine: &mut M,
+    words: &[String],
+    file: &mut DeskFile<V>,
+    other: &mut DeskFile<O>,
+    input: &mut Counted<R>,
+    out: &mut Counted<W>,
+    errors: &mut Counted<E>,
+) -> u8
+    ensures { IsPerformed (lent_by ⟦<M as Surroundings>⟧.around R.remaining W.contents E.contents V.known V.Disk.Disk O.known O.Disk.Disk)
+        (map string_bytes words.now)
+        (record { machine = machine.old; input = input.old; output = out.old; errors = errors.old; file = file.old; other = other.old })
+        (record { machine = machine.new; input = input.new; output = out.new; errors = errors.new; file = file.new; other = other.new }) result }
+{
     let mut context = Context {
         machine,
         file,
@@ -37,25 +71,7 @@ pub fn perform<V: Drive, O: Drive, R: Read, W: Write, E: Write>(
         out,
         errors,
     };
-    perform_on(rt.alloc(), words, &mut context)
-}
-
-/// Does what the words ask for with what the context lends, and gives the program's status. The first word is the program's name.
-/// The input is read by a job alone: a stream, and a standby desk, which follows a journal by it. Of the machine the clock is asked,
-/// a file of rows is read and a port is listened on.
-pub fn perform_on<M: Machine, V: Drive, O: Drive, R: Read, W: Write, E: Write>(
-    alloc: Global,
-    words: &[String],
-    context: &mut JobContext<'_, '_, '_, '_, '_, '_, M, V, O, R, W, E>,
-) -> u8
-    ensures lent { IsLentStill context.old context.new }
-    ensures performed { IsPerformed (lent_by ⟦<M as Surroundings>⟧.around R.remaining W.contents E.contents V.known V.Disk.Disk O.known O.Disk.Disk)
-        (map string_bytes words.now) (world_of _ context.old) (world_of _ context.new) result }
-{
-    match read_words(alloc, words) {
-        Ok(job) => context.do_job(alloc, job),
-        Err(no_job) => context.answer(alloc, &no_job),
-    }
+    context.perform(alloc, words)
 }
 
 impl<M, V, O, R, W, E> JobContext<'_, '_, '_, '_, '_, '_, M, V, O, R, W, E>
@@ -67,6 +83,18 @@ where
     W: Write,
     E: Write,
 {
+    // Does what the words ask for, and gives the program's status.
+    fn perform(&mut self, alloc: Global, words: &[String]) -> u8
+        ensures lent { IsLentStill self.old self.new }
+        ensures performed { IsPerformed (lent_by ⟦<M as Surroundings>⟧.around R.remaining W.contents E.contents V.known V.Disk.Disk O.known O.Disk.Disk)
+            (map string_bytes words.now) (world_of _ self.old) (world_of _ self.new) result }
+    {
+        match read_words(alloc, words) {
+            Ok(job) => self.do_job(alloc, job),
+            Err(no_job) => self.answer(alloc, &no_job),
+        }
+    }
+
     // Does the job, tells how it ended, and gives the status.
     fn do_job(&mut self, alloc: Global, job: Job) -> u8
         ensures lent { IsLentStill self.old self.new }

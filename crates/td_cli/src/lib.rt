@@ -27,7 +27,6 @@ pub use batch_laws::{
     a_batch_cut_short_is_sent_again, acknowledged_rows_are_kept_in_the_file,
     agreeing_batches_over_files_tell_the_same, runs_over_one_file_lead_on,
 };
-pub use context::{Context, JobContext};
 pub use jobs::{perform, perform_on};
 pub use laws::{
     agreeing_jobs_over_files_tell_the_same, agreeing_jobs_tell_the_same,

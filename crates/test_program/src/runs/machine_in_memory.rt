@@ -8,7 +8,7 @@ use std::collections::VecDeque;
 use std::io::{Read, Write};
 use std::test::Fail;
 use td_base::Counted;
-use td_cli::{Context, DeskFile, Drive, Machine, perform_on};
+use td_cli::{DeskFile, Drive, Machine, perform_on};
 use td_machine::{MemoryDrive, MemoryFile, MemoryIncoming, MemoryMachine};
 
 const REGISTER: &[u8] =
@@ -97,29 +97,6 @@ fn machine(
     })
 }
 
-// The status of the program on these words, with all of this lent to it. (It stands for any reader: one that borrows what it reads has a
-// lifetime beside that of the context.)
-fn performed<M: Machine, V: Drive, O: Drive, R: Read, W: Write, E: Write>(
-    alloc: Global,
-    machine: &mut M,
-    words: &[String],
-    file: &mut DeskFile<V>,
-    other: &mut DeskFile<O>,
-    input: &mut Counted<R>,
-    out: &mut Counted<W>,
-    errors: &mut Counted<E>,
-) -> u8 {
-    let mut context = Context {
-        machine,
-        file,
-        other,
-        input,
-        out,
-        errors,
-    };
-    perform_on(alloc, words, &mut context)
-}
-
 // What the program leaves on these words on a machine, over these files. (It stands for any machine and any drives: the proof of each
 // call over a file is dear.)
 fn done_over<M: Machine, V: Drive, O: Drive>(
@@ -134,7 +111,7 @@ fn done_over<M: Machine, V: Drive, O: Drive>(
     let mut input = Counted::new(input);
     let mut out = Counted::new(Vec::new(alloc));
     let mut errors = Counted::new(Vec::new(alloc));
-    let status = performed(
+    let status = perform_on(
         alloc,
         machine,
         &words,
