@@ -176,7 +176,7 @@ parted_after : {R W C H : Type 0} {k : Words R W C H}
     → (why : StopCause) → why ≢ stop.WriteFault → (reader : Counted R) (more : List ℕ) (fewer : ℕ) → ReadsOn k.remaining now.reader reader unread more left fewer (finish_of why)
     → StopsAs k.remaining reader left fewer room (unread ++ more) why
     → (mid : Counted W) (kept : List ℕ) → HoldsOrSends k.contents now.writer mid waits kept left fewer
-    → (writer : Counted W) (handler : H) (end : StreamEnd) → SendsAndParts k.contents k.heads mid writer kept now.handler handler why end
+    → (writer : Counted W) (handler : H) (end : StreamEnd) → SendsAndParts k.contents k.heads (mid, now.handler) (writer, handler) kept why end
     → IsServed k old (record { reader = reader; writer = writer; clock = now.clock; handler = handler }) end
 parted_after {k = k} {now = now} {waits = waits} {left = left} s few why other reader more fewer reads stops mid kept sending writer handler end (inl parts) =
     parted (all_sent s parts.0 (sends_on k.contents now.writer mid parts.0 waits kept left fewer sending parts.1)) few why other reader more fewer reads
@@ -191,7 +191,7 @@ pub stopped : {R W C H : Type 0} {k : Words R W C H}
     → (why : StopCause) (reader : Counted R) (more : List ℕ) (fewer : ℕ) → ReadsOn k.remaining now.reader reader unread more left fewer (finish_of why)
     → StopsAs k.remaining reader left fewer room (unread ++ more) why
     → (mid : Counted W) (kept : List ℕ) → SendsBefore k.contents now.writer mid waits kept left fewer why
-    → (writer : Counted W) (handler : H) (end : StreamEnd) → SendsAndParts k.contents k.heads mid writer kept now.handler handler why end
+    → (writer : Counted W) (handler : H) (end : StreamEnd) → SendsAndParts k.contents k.heads (mid, now.handler) (writer, handler) kept why end
     → IsServed k old (record { reader = reader; writer = writer; clock = now.clock; handler = handler }) end
 stopped s few stop.Closed reader more fewer reads stops mid kept sending writer handler end parts =
     parted_after s few stop.Closed (λ e. cc) reader more fewer reads stops mid kept sending writer handler end parts

@@ -32,9 +32,9 @@ ClosingReply contents heads old new before after (stop.Head target) end =
     × SendsLast contents old new (bytes_of reply) (if is_made reply then Refused else Failed) end
 ClosingReply contents heads old new before after stop.WriteFault end = (end ≡ WriteFault) × (new ≡ old) × (after ≡ before)
 
--- the same where replies wait, which go first
-abbrev pub SendsAndParts : {W H : Type 0} → (W → Option (List ℕ)) → (H → List ℕ → Reply → H → Type 0) → Counted W
-    → Counted W → List ℕ → H → H → StopCause → StreamEnd → Type 0
-SendsAndParts {W} contents heads old new waits before after stop end =
-    ((mid : Counted W) × Wrote contents old mid waits true × ClosingReply contents heads mid new before after stop end)
-    ⊎ ((end ≡ WriteFault) × IsCutShort contents old new waits × (after ≡ before))
+-- The same where replies wait, which go first. The writer and the handler are given together, before and after.
+abbrev pub SendsAndParts : {W H : Type 0} → (W → Option (List ℕ)) → (H → List ℕ → Reply → H → Type 0) → Counted W × H → Counted W × H
+    → List ℕ → StopCause → StreamEnd → Type 0
+SendsAndParts {W} contents heads old new waits stop end =
+    ((mid : Counted W) × Wrote contents old.0 mid waits true × ClosingReply contents heads mid new.0 old.1 new.1 stop end)
+    ⊎ ((end ≡ WriteFault) × IsCutShort contents old.0 new.0 waits × (new.1 ≡ old.1))

@@ -143,7 +143,7 @@ fn end_stream<W: Write, H: Handler>(
     replies: &mut Replies,
     stop: StopCause,
 ) -> StreamEnd
-    ensures { SendsAndParts W.contents H.handles_head writer.old writer.new (waiting replies.old) handler.old handler.new stop result }
+    ensures { SendsAndParts W.contents H.handles_head (writer.old, handler.old) (writer.new, handler.new) (waiting replies.old) stop result }
 {
     if replies.send(writer) {
         part_with(alloc, writer, handler, stop)

@@ -8,7 +8,7 @@ use Rattle.td_cli.specs.Told.{IsResultTold}
 use Rattle.td_cli.specs.World.{Lent, World}
 use Rattle.td_cli.specs.declared.exits.Cause.{Cause}
 
-module _ {M L Reads Writes R W E V S O T : Type 0} (lent : Lent M L Reads Writes R W E V S O T) (old begun new : World lent)
+module _ (lent : Lent) (old begun new : World lent)
     (output : begun.output ≡ old.output) (errors : begun.errors ≡ old.errors) (status : ℕ) where
   -- a result file
   pub result_from : (text : List ℕ) (stopped : Option Fault) (cause : Option Cause)

@@ -7,18 +7,17 @@ use Rattle.td_batch_rows.specs.Rows.{Tells}
 use Rattle.td_batch.specs.declared.running.BatchRun.{BatchRun}
 use Rattle.td_batch.specs.Runs.{has_refusal}
 use Rattle.td_words.specs.declared.words.BatchKind.{BatchKind}
-use Rattle.td_words.specs.declared.words.Office.{Office}
-use Rattle.td_words.specs.declared.words.Records.{Records}
+use Rattle.td_jobs.specs.Jobs.{with_machine}
 use Rattle.td_jobs.specs.Batched.{HasDoneRows, batch_rows_in}
 use Rattle.td_machine.specs.Machine.{HasRead, IsNotRead}
 use Rattle.td_machine.specs.declared.machine.ReadError.{ReadError}
-use Rattle.td_cli.specs.Journaled.{WithJournal}
+use Rattle.td_cli.specs.Journaled.{NamedDesk, WithJournal}
 use Rattle.td_cli.specs.World.{Lent, World}
 use Rattle.td_cli.specs.Exits.{of_file, of_rows, of_read_error}
 use Rattle.td_cli.specs.Told.{IsResultTold, IsToldAlone}
 use Rattle.td_cli.specs.declared.exits.Cause.TheVariants.{RowsRefused}
 
-module _ {M L Reads Writes R W E V S O T : Type 0} (lent : Lent M L Reads Writes R W E V S O T) where
+module _ (lent : Lent) where
   -- what a run left was told; or there was no desk for it, for this fault, which was told, and nothing was printed
   abbrev pub IsBatchTold : Result BatchRun DeskFault → World lent → World lent → ℕ → Type 0
   IsBatchTold (Ok r) old new status = IsResultTold lent r.text.items r.stopped (if has_refusal r then Some RowsRefused else None) old new status
@@ -26,29 +25,30 @@ module _ {M L Reads Writes R W E V S O T : Type 0} (lent : Lent M L Reads Writes
 
   -- Rows were done at the office's desk whose records stand there, and which keeps this journal, if one is named; at the office's moment or
   -- at one of the machine's clock. What became of them was told; or there was no desk, and the clock wasn't asked.
-  abbrev pub IsBatchAtDesk : Office → Records → Option (List ℕ) → BatchKind → List Command → World lent → World lent → ℕ → Type 0
-  IsBatchAtDesk office records journal which commands old new status =
+  abbrev pub IsBatchAtDesk : NamedDesk → BatchKind → List Command → World lent → World lent → ℕ → Type 0
+  IsBatchAtDesk desk which commands old new status =
       (end : Result BatchRun DeskFault)
-      × WithJournal lent office.country records journal
-      (λ D view opened left r. HasDoneRows view opened left lent.machine.ticks office.at which commands old.machine new.machine r)
+      × WithJournal lent desk
+      (λ D view opened left r. HasDoneRows view lent.machine.ticks desk.office.at which commands
+      (with_machine opened old.machine) (with_machine left new.machine) r)
       (new.machine ≡ old.machine) old new end
       × IsBatchTold end old new status
 
   -- What came of the bytes of a file. They aren't wholly rows: then nothing was printed, the clock wasn't asked, and neither the desk's
   -- file nor the other was opened. Or they are these rows, which were done at the desk.
-  abbrev pub AreRowsBatched : Office → Records → Option (List ℕ) → BatchKind → List ℕ → World lent → World lent → ℕ → Type 0
-  AreRowsBatched office records journal which bytes old new status =
+  abbrev pub AreRowsBatched : NamedDesk → BatchKind → List ℕ → World lent → World lent → ℕ → Type 0
+  AreRowsBatched desk which bytes old new status =
       ((why : BatchFault) × Tells (batch_rows_in which bytes) why × (new.machine ≡ old.machine)
       × (new.file ≡ old.file) × (new.other ≡ old.other) × IsToldAlone lent (Some (of_rows why)) old new status)
       ⊎ ((commands : List Command) × (batch_rows_in which bytes ≡ Ok commands)
-      × IsBatchAtDesk office records journal which commands old new status)
+      × IsBatchAtDesk desk which commands old new status)
 
   -- The file of rows at this path was done. It couldn't be read: then nothing was printed, and no other file was opened. Or these
   -- are its bytes, and this came of them, from the machine on as the reading left it. The input isn't read.
-  abbrev pub IsBatched : Office → Records → Option (List ℕ) → BatchKind → List ℕ → World lent → World lent → ℕ → Type 0
-  IsBatched office records journal which csv old new status =
+  abbrev pub IsBatched : NamedDesk → BatchKind → List ℕ → World lent → World lent → ℕ → Type 0
+  IsBatched desk which csv old new status =
       (new.input ≡ old.input)
       × (((why : ReadError) × IsNotRead lent.machine.known csv old.machine new.machine why
       × (new.file ≡ old.file) × (new.other ≡ old.other) × IsToldAlone lent (Some (of_read_error why)) old new status)
-      ⊎ ((bytes : List ℕ) × (read : M) × HasRead lent.machine.known csv old.machine bytes read
-      × AreRowsBatched office records journal which bytes (record old { machine = read }) new status))
+      ⊎ ((bytes : List ℕ) × (read : lent.Machine) × HasRead lent.machine.known csv old.machine bytes read
+      × AreRowsBatched desk which bytes (record old { machine = read }) new status))

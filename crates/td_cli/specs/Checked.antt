@@ -5,9 +5,9 @@ use Rattle.td_words.specs.declared.words.Records.{Records}
 use Rattle.td_cli.specs.AtDesk.{AtDesk}
 use Rattle.td_cli.specs.Exits.{of_file}
 use Rattle.td_cli.specs.Told.{IsPrinted, IsToldAlone}
-use Rattle.td_cli.specs.World.{IsOfOneFile, Lent, World}
+use Rattle.td_cli.specs.World.{OpensDeskFileAlone, Lent, World}
 
-module _ {M L Reads Writes R W E V S O T : Type 0} (lent : Lent M L Reads Writes R W E V S O T) where
+module _ (lent : Lent) where
   -- what was found was told: sound where a desk was opened, or why there was none
   abbrev pub IsCheckTold : Result (Unit {0}) DeskFault → World lent → World lent → ℕ → Type 0
   IsCheckTold (Ok opened) old new status = IsPrinted lent (codes "sound\n") None old new status
@@ -16,6 +16,6 @@ module _ {M L Reads Writes R W E V S O T : Type 0} (lent : Lent M L Reads Writes
   -- Records were tested: a desk of the country was opened where they stand, and left as it was, or there was none; and that was told.
   abbrev pub IsChecked : List ℕ → Records → World lent → World lent → ℕ → Type 0
   IsChecked country records old new status =
-      IsOfOneFile lent old new
+      OpensDeskFileAlone lent old new
       × ((end : Result (Unit {0}) DeskFault)
       × AtDesk lent.drive country records (λ D view opened left end. left ≡ opened) (Unit {0}) old.file new.file end × IsCheckTold end old new status)

@@ -6,6 +6,7 @@ use Rattle.td_files.specs.declared.desks.DeskFault.{DeskFault}
 use Rattle.td_journal_jobs.specs.Journaling.{HasJournaled}
 use Rattle.td_journal_jobs.specs.declared.journaling.Journaled.{Journaled}
 use Rattle.td_journal_start.specs.declared.refused.StartFault.{StartFault}
+use Rattle.td_words.specs.declared.words.Office.{Office}
 use Rattle.td_words.specs.declared.words.Records.{Records}
 use Rattle.td_cli.specs.AtDesk.{AtDesk}
 use Rattle.td_cli.specs.Exits.{of_start}
@@ -26,16 +27,25 @@ abbrev pub kept : {End F : Type 0} → F → Result (Journaled End F) DeskFault 
 kept file (Ok ended) = ended.file
 kept file (Err why) = file
 
-module _ {M L Reads Writes R W E V S O T End : Type 0} (lent : Lent M L Reads Writes R W E V S O T) (country : List ℕ) (records : Records) where
+-- A desk that the words name: its office, where its records stand, and the path of its journal, if it keeps one.
+pub record NamedDesk : Type 0 where
+  pub office : Office
+  pub records : Records
+  pub journal : Option (List ℕ)
+
+abbrev pub named_desk : Office → Records → Option (List ℕ) → NamedDesk
+named_desk office records journal = record { office = office; records = records; journal = journal }
+
+module _ {End : Type 0} (lent : Lent) (desk : NamedDesk) where
   -- The file at the path was opened on the other drive, for a journal; and there was a desk where the records stand, around which one that
   -- keeps the journal did the job, or the journal wasn't begun; or there was no desk. The journal's file is kept as it is left.
   pub record IsJournaledAt (path : List ℕ) (did : (D : Type 0) → DeskView D → D → D → End → Type 0) (untouched : Type 0)
       (old new : World lent) (end : Result End DeskFault) : Type 0 where
-    pub journal : T
-    pub opened : FileHeld O lent.other_disk
+    pub journal : lent.OtherDisk
+    pub opened : FileHeld lent.OtherDrive lent.other_disk
     pub at : IsJournalAt lent.other_drive path old.other opened journal
-    pub ended : Result (Journaled End T) DeskFault
-    pub done : AtDesk lent.drive country records
+    pub ended : Result (Journaled End lent.OtherDisk) DeskFault
+    pub done : AtDesk lent.drive desk.office.country desk.records
         (λ D view begun left ended. HasJournaled lent.other_disk view begun left journal did untouched ended) untouched old.file new.file ended
     pub file_is : new.other.journal ≡ Some (kept journal ended)
     pub drive_is : new.other.drive ≡ opened.drive
@@ -45,10 +55,13 @@ module _ {M L Reads Writes R W E V S O T End : Type 0} (lent : Lent M L Reads Wr
 
   -- What a job leaves whose desk's records stand there and which keeps this journal, if one is named; else it leaves the other file alone.
   -- Where the journal's file wasn't opened, the desk's wasn't either.
-  abbrev pub WithJournal : Option (List ℕ) → ((D : Type 0) → DeskView D → D → D → End → Type 0) → Type 0
+  abbrev pub WithJournalAt : Option (List ℕ) → ((D : Type 0) → DeskView D → D → D → End → Type 0) → Type 0
       → World lent → World lent → Result End DeskFault → Type 0
-  WithJournal None did untouched old new end =
-      (new.other ≡ old.other) × AtDesk lent.drive country records did untouched old.file new.file end
-  WithJournal (Some path) did untouched old new end =
+  WithJournalAt None did untouched old new end =
+      (new.other ≡ old.other) × AtDesk lent.drive desk.office.country desk.records did untouched old.file new.file end
+  WithJournalAt (Some path) did untouched old new end =
       ((why : DeskFault) × (end ≡ Err why) × HasNoJournal lent.other_drive path old.other new.other why × untouched × (new.file ≡ old.file))
       ⊎ IsJournaledAt path did untouched old new end
+
+  abbrev pub WithJournal : ((D : Type 0) → DeskView D → D → D → End → Type 0) → Type 0 → World lent → World lent → Result End DeskFault → Type 0
+  WithJournal = WithJournalAt desk.journal

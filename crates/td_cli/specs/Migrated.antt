@@ -5,7 +5,7 @@ use Rattle.td_files.specs.Upgraded.{IsUpgraded}
 use Rattle.td_files.specs.declared.desks.DeskFault.{DeskFault}
 use Rattle.td_cli.specs.Exits.{of_file}
 use Rattle.td_cli.specs.Told.{IsPrinted, IsToldAlone}
-use Rattle.td_cli.specs.World.{IsOfOneFile, Lent, World}
+use Rattle.td_cli.specs.World.{OpensDeskFileAlone, Lent, World}
 use Rattle.td_cli.specs.declared.exits.Cause.TheVariants.{Of}
 use Rattle.td_cli.specs.declared.exits.Word.TheVariants.{NoMemory}
 
@@ -13,7 +13,7 @@ use Rattle.td_cli.specs.declared.exits.Word.TheVariants.{NoMemory}
 abbrev pub message_of_version : ℕ → List ℕ
 message_of_version version = codes "version " ++ (decimal version ++ codes "\n")
 
-module _ {M L Reads Writes R W E V S O T : Type 0} (lent : Lent M L Reads Writes R W E V S O T) where
+module _ (lent : Lent) where
   -- What was told: the version, or that there was no memory for its line; or why the file wasn't brought to it.
   abbrev pub IsMigrationTold : Result ℕ DeskFault → World lent → World lent → ℕ → Type 0
   IsMigrationTold (Ok version) old new status =
@@ -23,5 +23,5 @@ module _ {M L Reads Writes R W E V S O T : Type 0} (lent : Lent M L Reads Writes
   -- the file at the path was to be brought to the newest version, and what came of it was told
   abbrev pub IsMigrated : List ℕ → World lent → World lent → ℕ → Type 0
   IsMigrated path old new status =
-      IsOfOneFile lent old new
+      OpensDeskFileAlone lent old new
       × ((end : Result ℕ DeskFault) × IsUpgraded lent.drive path old.file new.file end × IsMigrationTold end old new status)

@@ -14,6 +14,7 @@ use Rattle.td_words.specs.declared.words.Task.TheVariants.{Serve, Pipe, Batch, R
 use Rattle.td_words.specs.Words.{AsksFor, IsNoJob}
 use Rattle.td_cli.specs.Batched.{IsBatched}
 use Rattle.td_cli.specs.Checked.{IsChecked}
+use Rattle.td_cli.specs.Journaled.{named_desk}
 use Rattle.td_cli.specs.Migrated.{IsMigrated}
 use Rattle.td_cli.specs.Replayed.{IsJournalReplayed}
 use Rattle.td_cli.specs.Reported.{IsReportDone}
@@ -21,20 +22,20 @@ use Rattle.td_cli.specs.Served.{IsPipeDone, IsServingDone}
 use Rattle.td_cli.specs.Exits.{IsEnded, IsWrittenOut}
 use Rattle.td_cli.specs.Told.{IsAnswered}
 use Rattle.td_cli.specs.Transferred.{IsTransferred}
-use Rattle.td_cli.specs.World.{IsOfNoFile, Lent, World}
+use Rattle.td_cli.specs.World.{OpensNoFile, Lent, World}
 use Rattle.td_cli.specs.declared.exits.Cause.TheVariants.{Of}
 use Rattle.td_cli.specs.declared.exits.Word.TheVariants.{NoMemory}
 
-module _ {M L Reads Writes R W E V S O T : Type 0} (lent : Lent M L Reads Writes R W E V S O T) where
+module _ (lent : Lent) where
   -- A task was done at a desk of the office, and how it ended was told, with that status: one stream from the input to the output;
   -- connections; a file of rows; a journal again; a report; or a file was tested. The file is the one at the path that the task names, and
   -- the other that of a journal.
   abbrev pub IsTaskDone : Office → Task → World lent → World lent → ℕ → Type 0
-  IsTaskDone office (Pipe records journal) old new status = IsPipeDone lent office records (option_map string_bytes journal) old new status
+  IsTaskDone office (Pipe records journal) old new status = IsPipeDone lent (named_desk office records (option_map string_bytes journal)) old new status
   IsTaskDone office (Serve listening records journal first) old new status =
-      IsServingDone lent first office records (option_map string_bytes journal) listening old new status
+      IsServingDone lent first (named_desk office records (option_map string_bytes journal)) listening old new status
   IsTaskDone office (Batch which csv path journal) old new status =
-      IsBatched lent office (File path) (option_map string_bytes journal) which (string_bytes csv) old new status
+      IsBatched lent (named_desk office (File path) (option_map string_bytes journal)) which (string_bytes csv) old new status
   IsTaskDone office (Replay csv part records) old new status =
       IsJournalReplayed lent office.country records (string_bytes csv) part old new status
   IsTaskDone office (Report kind path) old new status = IsReportDone lent office.country kind (File path) old new status
@@ -52,7 +53,7 @@ module _ {M L Reads Writes R W E V S O T : Type 0} (lent : Lent M L Reads Writes
   abbrev pub IsPerformed : List (List ℕ) → World lent → World lent → ℕ → Type 0
   IsPerformed words old new status =
       ((job : Job) × AsksFor words job × IsJobDone job old new status)
-      ⊎ ((no_job : NoJob) × IsNoJob words no_job × IsOfNoFile lent old new × IsAnswered lent no_job old new status)
+      ⊎ ((no_job : NoJob) × IsNoJob words no_job × OpensNoFile lent old new × IsAnswered lent no_job old new status)
 
 -- Words that couldn't be read: there was no memory for them, or they aren't text, and the error's kind says which.
 abbrev pub IsUnread : {E : Type 0} → (E → Option (List ℕ)) → Error → Counted E → Counted E → ℕ → Type 0

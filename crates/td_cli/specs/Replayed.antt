@@ -13,7 +13,7 @@ use Rattle.td_words.specs.declared.words.Records.{Records}
 use Rattle.td_cli.specs.AtDesk.{AtDesk}
 use Rattle.td_cli.specs.Exits.{of_file, of_journal, of_read_error}
 use Rattle.td_cli.specs.Told.{IsResultTold, IsToldAlone}
-use Rattle.td_cli.specs.World.{IsOfOneFile, Lent, World}
+use Rattle.td_cli.specs.World.{OpensDeskFileAlone, Lent, World}
 use Rattle.td_cli.specs.declared.exits.Cause.{Cause}
 use Rattle.td_cli.specs.declared.exits.Cause.TheVariants.{Differs, ForeignRow}
 
@@ -33,7 +33,7 @@ IsUnreadFor part bytes cause =
     ⊎ ((rows : List Numbered) × (torn : ℕ) × (number : ℕ) × HasChanges bytes rows torn × IsFirstNot (AreInOrder part) rows number
     × (cause ≡ ForeignRow number))
 
-module _ {M L Reads Writes R W E V S O T : Type 0} (lent : Lent M L Reads Writes R W E V S O T) where
+module _ (lent : Lent) where
   -- what a replay left was told; or there was no desk for it, for this fault, which was told, and nothing was printed
   abbrev pub IsReplayTold : Result ReplayRun DeskFault → World lent → World lent → ℕ → Type 0
   IsReplayTold (Ok run) old new status = IsResultTold lent run.text.items run.stopped (option_map Differs run.differs) old new status
@@ -51,7 +51,7 @@ module _ {M L Reads Writes R W E V S O T : Type 0} (lent : Lent M L Reads Writes
   -- they are these rows, which were done at the desk.
   abbrev pub AreRowsReplayed : List ℕ → Records → List ℕ → Bool → World lent → World lent → ℕ → Type 0
   AreRowsReplayed country records bytes part old new status =
-      IsOfOneFile lent old new
+      OpensDeskFileAlone lent old new
       × (((cause : Cause) × IsUnreadFor part bytes cause × (new.file ≡ old.file) × IsToldAlone lent (Some cause) old new status)
       ⊎ ((rows : List Numbered) × AreRowsOf part bytes rows × IsReplayAtDesk country records rows old new status))
 
@@ -61,5 +61,5 @@ module _ {M L Reads Writes R W E V S O T : Type 0} (lent : Lent M L Reads Writes
   IsJournalReplayed country records csv part old new status =
       ((why : ReadError) × IsNotRead lent.machine.known csv old.machine new.machine why
       × (new.input ≡ old.input) × (new.file ≡ old.file) × (new.other ≡ old.other) × IsToldAlone lent (Some (of_read_error why)) old new status)
-      ⊎ ((bytes : List ℕ) × (read : M) × HasRead lent.machine.known csv old.machine bytes read
+      ⊎ ((bytes : List ℕ) × (read : lent.Machine) × HasRead lent.machine.known csv old.machine bytes read
       × AreRowsReplayed country records bytes part (record old { machine = read }) new status)

@@ -16,7 +16,7 @@ use Rattle.td_words.specs.declared.words.ReportKind.{ReportKind}
 use Rattle.td_words.specs.declared.words.ReportKind.TheVariants.{Overdue, Guarantees}
 use Rattle.td_cli.specs.AtDesk.{AtDesk}
 use Rattle.td_cli.specs.Exits.{IsEnded, of_job, of_report}
-use Rattle.td_cli.specs.World.{IsOfOneFile, Lent, World}
+use Rattle.td_cli.specs.World.{OpensDeskFileAlone, Lent, World}
 use Rattle.td_cli.specs.declared.exits.Cause.{Cause}
 
 -- the text of a report on a content
@@ -40,12 +40,12 @@ abbrev pub report_cause : Result (Unit {0}) ReportFault → Option Cause
 report_cause (Ok done) = None
 report_cause (Err why) = Some (of_report why)
 
-module _ {M L Reads Writes R W E V S O T : Type 0} (lent : Lent M L Reads Writes R W E V S O T) where
+module _ (lent : Lent) where
   -- The records that stand there were reported on, of a desk of this country, or nothing was written, since there was no desk; and what
   -- came of it was told.
   abbrev pub IsReportDone : List ℕ → ReportKind → Records → World lent → World lent → ℕ → Type 0
   IsReportDone country kind records old new status =
-      IsOfOneFile lent old new
+      OpensDeskFileAlone lent old new
       × ((end : Result (Result (Unit {0}) ReportFault) DeskFault)
       × AtDesk lent.drive country records (λ D view opened left end. HasReported view opened left lent.output kind old.output new.output end)
       (new.output ≡ old.output) old.file new.file end

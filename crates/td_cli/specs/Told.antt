@@ -12,7 +12,7 @@ use Rattle.td_cli.specs.declared.exits.Cause.{Cause}
 use Rattle.td_cli.specs.declared.exits.Cause.TheVariants.{Of}
 use Rattle.td_cli.specs.declared.exits.Word.TheVariants as word
 
-module _ {M L Reads Writes R W E V S O T : Type 0} (lent : Lent M L Reads Writes R W E V S O T) where
+module _ (lent : Lent) where
   -- how it ended was told, and nothing was printed
   abbrev pub IsToldAlone : Option Cause → World lent → World lent → ℕ → Type 0
   IsToldAlone cause old new status = (new.output ≡ old.output) × IsEnded lent.errors cause old.errors new.errors status

@@ -1,5 +1,6 @@
 -- What was done between two files, and what was told of it.
 use Rattle.std.specs.Prelude.{◌≡◌, ℕ, List, string_bytes, Result}
+use Rattle.td_files.specs.Found.{file_at}
 use Rattle.td_files.specs.Extracted.{IsExtracted}
 use Rattle.td_files.specs.Joined.{IsJoined}
 use Rattle.td_files.specs.declared.desks.DeskFault.{DeskFault}
@@ -10,18 +11,18 @@ use Rattle.td_cli.specs.Exits.{of_extract, of_job, of_joined}
 use Rattle.td_cli.specs.Told.{IsToldAlone}
 use Rattle.td_cli.specs.World.{Lent, World}
 
-module _ {M L Reads Writes R W E V S O T : Type 0} (lent : Lent M L Reads Writes R W E V S O T) where
+module _ (lent : Lent) where
   -- The rows of the holders of a range were copied into a new file, or all rows of a file were put into another; and how it ended was told.
   -- The files are those at the paths, each on its drive, that of `--db` first.
   abbrev pub IsTransferDone : Transfer → List ℕ → World lent → World lent → ℕ → Type 0
   IsTransferDone (Extract holders from into) country old new status =
       (end : Result (Unit {0}) DeskFault)
-      × IsExtracted lent.drive lent.other_drive country holders.first holders.last (string_bytes from) (string_bytes into)
-      old.file new.file old.other new.other end
+      × IsExtracted (file_at lent.drive (string_bytes from)) (file_at lent.other_drive (string_bytes into))
+      (record { country = country; first = holders.first; last = holders.last }) old.file new.file old.other new.other end
       × IsToldAlone lent (of_job of_extract end) old new status
   IsTransferDone (Join into from) country old new status =
       (end : Result (Unit {0}) JoinRefusal)
-      × IsJoined lent.drive lent.other_drive country (string_bytes into) (string_bytes from) old.file new.file old.other new.other end
+      × IsJoined (file_at lent.drive (string_bytes into)) (file_at lent.other_drive (string_bytes from)) country old.file new.file old.other new.other end
       × IsToldAlone lent (of_joined end) old new status
 
   -- the same, for which nothing was read, and nothing asked of the machine

@@ -2,7 +2,7 @@
 ghost use Rattle.std.specs.Prelude.{◌≡◌, IfErr, Some};
 ghost use Rattle.td_files.specs.Found.{IsKeptDesk, over_file};
 ghost use Rattle.td_jobs.specs.Desks.{IsReady};
-ghost use Rattle.td_jobs.specs.Jobs.{IsUntouched};
+ghost use Rattle.td_jobs.specs.Jobs.{IsUntouched, job_known, state_of};
 ghost use Rattle.td_cli.specs.AtDesk.{AtDesk, without_job};
 ghost use Rattle.td_cli.specs.World.{IsLentStill};
 
@@ -44,8 +44,9 @@ where
         ensures other { self.new.other.now ≡ self.old.other.now }
         ensures untold { self.new.errors.now ≡ self.old.errors.now }
         ensures done { AtDesk V.known office.country records.now
-            (λ D view opened left end. J.does D _ _ _ _ _ _ view opened left R.remaining W.contents ⟦<M as Surroundings>⟧.around office.at job
-            self.old.input.now self.new.input.now self.old.out.now self.new.out.now self.old.machine.now self.new.machine.now end)
+            (λ D view opened left end. J.does D _ _ _ _ _ _ view (job_known R.remaining W.contents ⟦<M as Surroundings>⟧.around) office.at job
+            (state_of opened self.old.input.now self.old.out.now self.old.machine.now)
+            (state_of left self.new.input.now self.new.out.now self.new.machine.now) end)
             (IsUntouched self.old.input.now self.new.input.now self.old.out.now self.new.out.now self.old.machine.now self.new.machine.now)
             self.old.file.now self.new.file.now (without_job result) }
         ensures job { IfErr result (λ undone. undone.job ≡ job) }
@@ -102,8 +103,8 @@ fn over_file<M: Machine, V: Drive, R: Read, W: Write, J: DeskJob>(
     out: &mut Counted<W>,
 ) -> J::End
     ensures done { IsReady over_file desk → (left : _) × (file.new.connection ≡ Some left) × IsKeptDesk left
-        × J.does _ _ _ _ _ _ _ over_file desk left R.remaining W.contents ⟦<M as Surroundings>⟧.around at job
-        input.old input.new out.old out.new machine.old machine.new result }
+        × J.does _ _ _ _ _ _ _ over_file (job_known R.remaining W.contents ⟦<M as Surroundings>⟧.around) at job
+        (state_of desk input.old out.old machine.old) (state_of left input.new out.new machine.new) result }
     ensures drive { file.new.drive ≡ file.old.drive }
 {
     let (end, desk) = job.on(alloc, desk, machine, at, input, out);

@@ -14,6 +14,7 @@ ghost use Rattle.td_words.specs.declared.words.BatchKind.{BatchKind};
 ghost use Rattle.td_cli.specs.BatchLaws.{IsAnsweredAfterCrash, IsKeptBetweenRows, TellAlikeByRows, TriedRow, commands_tried, outcomes_tried};
 ghost use Rattle.td_jobs.specs.Batched.{HasDoneRows, header_of, result_line};
 ghost use Rattle.td_jobs.specs.Desks.{BeginAlike, fresh_books};
+ghost use Rattle.td_jobs.specs.Jobs.{DeskAndMachine};
 ghost use Rattle.td_cli.specs.Desks.{BeginsKept};
 ghost use Rattle.td_cli.specs.Runs.{GoesOnFrom, IsRun, OpensAfterCrash};
 
@@ -28,14 +29,13 @@ use td_http::Clock;
 /// A row of the result file is made of its command and of what was said to it (`result_rows`).
 pub fn agreeing_batches_over_files_tell_the_same<C: Clock, F: Disk, OtherC: Clock, OtherF: Disk>()
     ensures { (country : List ℕ) (H : ℕ) (which other_which : BatchKind) (at other_at : Option ℤ) (image other_image : Image)
-        (opened left : FileSeen F.Disk) (other_opened other_left : FileSeen OtherF.Disk)
-        (rows other_rows : List Command) (clock clock_left : C) (other_clock other_clock_left : OtherC) (r other_r : BatchRun)
-        → BeginsKept image country opened → BeginsKept other_image country other_opened
-        → (one : HasDoneRows over_file opened left C.ticks at which rows clock clock_left r)
-        → (other : HasDoneRows over_file other_opened other_left OtherC.ticks other_at
-        other_which other_rows other_clock other_clock_left other_r)
-        → IsClean left → IsClean other_left
-        → BeginAlike country H (over_file.content opened) (over_file.content other_opened)
+        (rows other_rows : List Command) (r other_r : BatchRun)
+        (old new : DeskAndMachine (FileSeen F.Disk) C) (other_old other_new : DeskAndMachine (FileSeen OtherF.Disk) OtherC)
+        → BeginsKept image country old.desk → BeginsKept other_image country other_old.desk
+        → (one : HasDoneRows over_file C.ticks at which rows old new r)
+        → (other : HasDoneRows over_file OtherC.ticks other_at other_which other_rows other_old other_new other_r)
+        → IsClean new.desk → IsClean other_new.desk
+        → BeginAlike country H (over_file.content old.desk) (over_file.content other_old.desk)
         → TellAlikeByRows country H (commands_tried one.moment rows r one.ran) (outcomes_tried one.moment rows r one.ran)
         (commands_tried other.moment other_rows other_r other.ran) (outcomes_tried other.moment other_rows other_r other.ran) }
 {}

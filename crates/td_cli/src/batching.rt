@@ -3,7 +3,8 @@ ghost use Rattle.std.specs.Prelude.{◌≡◌, None, Some, if◌then◌else◌, 
 ghost use Rattle.td_batch.specs.Runs.{has_refusal};
 ghost use Rattle.td_jobs.specs.Batched.{commands_of, kind_of};
 ghost use Rattle.td_cli.specs.Batched.{IsBatchAtDesk, IsBatchTold, IsBatched};
-ghost use Rattle.td_cli.specs.World.{IsLentStill, IsOfNoFile, lent_by, world_of};
+ghost use Rattle.td_cli.specs.Journaled.{named_desk};
+ghost use Rattle.td_cli.specs.World.{IsLentStill, OpensNoFile, lent_by, world_of};
 ghost use Rattle.td_cli.specs.declared.exits.Cause.TheVariants.{RowsRefused};
 
 use crate::context::JobContext;
@@ -39,7 +40,8 @@ where
     ) -> u8
         ensures lent { IsLentStill self.old self.new }
         ensures done { IsBatched (lent_by ⟦<M as Surroundings>⟧.around R.remaining W.contents E.contents V.known V.Disk.Disk O.known O.Disk.Disk)
-            office records.now (option_map string_bytes journal.now) kind csv.now (world_of _ self.old) (world_of _ self.new) result }
+            (named_desk office records.now (option_map string_bytes journal.now)) kind csv.now
+            (world_of _ self.old) (world_of _ self.new) result }
     {
         let bytes = match self.machine.read_file(alloc, csv) {
             Ok(bytes) => bytes,
@@ -63,7 +65,8 @@ where
         ensures lent { IsLentStill self.old self.new }
         ensures unread { self.new.input.now ≡ self.old.input.now }
         ensures done { IsBatchAtDesk (lent_by ⟦<M as Surroundings>⟧.around R.remaining W.contents E.contents V.known V.Disk.Disk O.known O.Disk.Disk)
-            office records.now (option_map string_bytes journal.now) (kind_of rows) (commands_of rows) (world_of _ self.old) (world_of _ self.new) result }
+            (named_desk office records.now (option_map string_bytes journal.now))
+            (kind_of rows) (commands_of rows) (world_of _ self.old) (world_of _ self.new) result }
     {
         let end = self.with_journal(alloc, office, records, journal, rows);
         self.tell_batch(alloc, end)
@@ -72,7 +75,7 @@ where
     // Tells what became of the rows, or why there was no desk for them, and gives the status.
     fn tell_batch(&mut self, alloc: Global, end: Result<BatchRun, DeskFault>) -> u8
         ensures lent { IsLentStill self.old self.new }
-        ensures kept { IsOfNoFile (lent_by ⟦<M as Surroundings>⟧.around R.remaining W.contents E.contents V.known V.Disk.Disk O.known O.Disk.Disk)
+        ensures kept { OpensNoFile (lent_by ⟦<M as Surroundings>⟧.around R.remaining W.contents E.contents V.known V.Disk.Disk O.known O.Disk.Disk)
             (world_of _ self.old) (world_of _ self.new) }
         ensures told { IsBatchTold (lent_by ⟦<M as Surroundings>⟧.around R.remaining W.contents E.contents V.known V.Disk.Disk O.known O.Disk.Disk)
             end (world_of _ self.old) (world_of _ self.new) result }

@@ -1,7 +1,7 @@
 //! One way to a desk for every job that may keep a journal.
 ghost use Rattle.std.specs.Prelude.{◌≡◌, Some, option_map, string_bytes};
-ghost use Rattle.td_jobs.specs.Jobs.{IsUntouched};
-ghost use Rattle.td_cli.specs.Journaled.{WithJournal, begun};
+ghost use Rattle.td_jobs.specs.Jobs.{IsUntouched, job_known, state_of};
+ghost use Rattle.td_cli.specs.Journaled.{WithJournal, begun, named_desk};
 ghost use Rattle.td_cli.specs.World.{IsLentStill, lent_by, world_of};
 
 use crate::at_desk::Undone;
@@ -37,9 +37,10 @@ where
         ensures lent { IsLentStill self.old self.new }
         ensures untold { self.new.errors.now ≡ self.old.errors.now }
         ensures done { WithJournal (lent_by ⟦<M as Surroundings>⟧.around R.remaining W.contents E.contents V.known V.Disk.Disk O.known O.Disk.Disk)
-            office.country records.now (option_map string_bytes journal.now)
-            (λ D view opened left end. J.does D _ _ _ _ _ _ view opened left R.remaining W.contents ⟦<M as Surroundings>⟧.around office.at job
-            self.old.input.now self.new.input.now self.old.out.now self.new.out.now self.old.machine.now self.new.machine.now end)
+            (named_desk office records.now (option_map string_bytes journal.now))
+            (λ D view opened left end. J.does D _ _ _ _ _ _ view (job_known R.remaining W.contents ⟦<M as Surroundings>⟧.around) office.at job
+            (state_of opened self.old.input.now self.old.out.now self.old.machine.now)
+            (state_of left self.new.input.now self.new.out.now self.new.machine.now) end)
             (IsUntouched self.old.input.now self.new.input.now self.old.out.now self.new.out.now self.old.machine.now self.new.machine.now)
             (world_of _ self.old) (world_of _ self.new) result }
     {
@@ -64,9 +65,10 @@ where
         ensures lent { IsLentStill self.old self.new }
         ensures untold { self.new.errors.now ≡ self.old.errors.now }
         ensures done { WithJournal (lent_by ⟦<M as Surroundings>⟧.around R.remaining W.contents E.contents V.known V.Disk.Disk O.known O.Disk.Disk)
-            office.country records.now (Some path.now)
-            (λ D view opened left end. J.does D _ _ _ _ _ _ view opened left R.remaining W.contents ⟦<M as Surroundings>⟧.around office.at job
-            self.old.input.now self.new.input.now self.old.out.now self.new.out.now self.old.machine.now self.new.machine.now end)
+            (named_desk office records.now (Some path.now))
+            (λ D view opened left end. J.does D _ _ _ _ _ _ view (job_known R.remaining W.contents ⟦<M as Surroundings>⟧.around) office.at job
+            (state_of opened self.old.input.now self.old.out.now self.old.machine.now)
+            (state_of left self.new.input.now self.new.out.now self.new.machine.now) end)
             (IsUntouched self.old.input.now self.new.input.now self.old.out.now self.new.out.now self.old.machine.now self.new.machine.now)
             (world_of _ self.old) (world_of _ self.new) result }
     {

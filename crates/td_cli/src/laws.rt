@@ -2,12 +2,12 @@
 ghost use Rattle.std.specs.Prelude.{ℕ, Bool, List, map, Result};
 ghost use Rattle.std.specs.declared.io.Error.{Error};
 ghost use Rattle.sqlite_wal.specs.Recovery.{Image};
-ghost use Rattle.counted_io.specs.declared.counted.Counted.{Counted};
 ghost use Rattle.td_files.specs.Found.{FileSeen, IsClean, over_file};
 ghost use Rattle.td_desk.specs.declared.plain.PlainDesk.{PlainDesk};
 ghost use Rattle.td_jobs.specs.Desks.{BeginAlike, BeginsEmpty, in_memory};
 ghost use Rattle.td_cli.specs.Desks.{BeginsIn};
-ghost use Rattle.td_jobs.specs.Listening.{HasServed};
+ghost use Rattle.td_jobs.specs.Jobs.{JobState};
+ghost use Rattle.td_jobs.specs.Listening.{HasServed, ServingState};
 ghost use Rattle.td_jobs.specs.Piped.{IsPiped};
 ghost use Rattle.td_http.specs.ConnectionLaws.{TellAlikeOver};
 ghost use Rattle.td_http.specs.Laws.{TellAlike};
@@ -30,14 +30,11 @@ pub fn agreeing_jobs_tell_the_same<
     OtherW: Write,
     OtherC: Clock,
 >()
-    ensures { (country : List ℕ) (H : ℕ) (opened left other_opened other_left : PlainDesk) (end other_end : StreamEnd)
-        (reader reader_left : Counted R) (writer writer_left : Counted W) (clock clock_left : C)
-        (other_reader other_reader_left : Counted OtherR) (other_writer other_writer_left : Counted OtherW) (other_clock other_clock_left : OtherC)
-        → BeginsEmpty country opened → BeginsEmpty country other_opened
-        → (one : IsPiped in_memory opened left R.remaining W.contents C.ticks
-        reader reader_left writer writer_left clock clock_left end)
-        → (other : IsPiped in_memory other_opened other_left OtherR.remaining OtherW.contents OtherC.ticks
-        other_reader other_reader_left other_writer other_writer_left other_clock other_clock_left other_end)
+    ensures { (country : List ℕ) (H : ℕ) (old new : JobState PlainDesk R W C) (end : StreamEnd)
+        (other_old other_new : JobState PlainDesk OtherR OtherW OtherC) (other_end : StreamEnd)
+        → BeginsEmpty country old.desk → BeginsEmpty country other_old.desk
+        → (one : IsPiped in_memory R.remaining W.contents C.ticks old new end)
+        → (other : IsPiped in_memory OtherR.remaining OtherW.contents OtherC.ticks other_old other_new other_end)
         → TellAlike country H one.served.run.exchanges other.served.run.exchanges }
 {}
 
@@ -54,17 +51,14 @@ pub fn agreeing_jobs_over_files_tell_the_same<
     OtherC: Clock,
     OtherF: Disk,
 >()
-    ensures { (country : List ℕ) (H : ℕ) (image other_image : Image) (is_new is_other_new : Bool) (end other_end : StreamEnd)
-        (opened left : FileSeen F.Disk) (other_opened other_left : FileSeen OtherF.Disk)
-        (reader reader_left : Counted R) (writer writer_left : Counted W) (clock clock_left : C)
-        (other_reader other_reader_left : Counted OtherR) (other_writer other_writer_left : Counted OtherW) (other_clock other_clock_left : OtherC)
-        → BeginsIn is_new image country opened → BeginsIn is_other_new other_image country other_opened
-        → (one : IsPiped over_file opened left R.remaining W.contents C.ticks
-        reader reader_left writer writer_left clock clock_left end)
-        → (other : IsPiped over_file other_opened other_left OtherR.remaining OtherW.contents OtherC.ticks
-        other_reader other_reader_left other_writer other_writer_left other_clock other_clock_left other_end)
-        → IsClean left → IsClean other_left
-        → BeginAlike country H (over_file.content opened) (over_file.content other_opened)
+    ensures { (country : List ℕ) (H : ℕ) (image other_image : Image) (is_new is_other_new : Bool)
+        (old new : JobState (FileSeen F.Disk) R W C) (end : StreamEnd)
+        (other_old other_new : JobState (FileSeen OtherF.Disk) OtherR OtherW OtherC) (other_end : StreamEnd)
+        → BeginsIn is_new image country old.desk → BeginsIn is_other_new other_image country other_old.desk
+        → (one : IsPiped over_file R.remaining W.contents C.ticks old new end)
+        → (other : IsPiped over_file OtherR.remaining OtherW.contents OtherC.ticks other_old other_new other_end)
+        → IsClean new.desk → IsClean other_new.desk
+        → BeginAlike country H (over_file.content old.desk) (over_file.content other_old.desk)
         → TellAlike country H one.served.run.exchanges other.served.run.exchanges }
 {}
 
@@ -73,15 +67,11 @@ pub fn agreeing_jobs_over_files_tell_the_same<
 /// that the stream stops) and the same of these failed. How they are spread over connections, and what other
 /// holders asked for, makes no difference; nor whether all connections came that were asked for.
 pub fn agreeing_servings_tell_the_same<M: Machine, C: Clock, OtherM: Machine, OtherC: Clock>()
-    ensures { (country : List ℕ) (H : ℕ) (opened left other_opened other_left : PlainDesk)
-        (connections other_connections : ℕ) (answer other_answer : Result Unit Error)
-        (came gone : M.Incoming) (clock clock_left : C)
-        (other_came other_gone : OtherM.Incoming) (other_clock other_clock_left : OtherC)
-        → BeginsEmpty country opened → BeginsEmpty country other_opened
-        → (one : HasServed in_memory opened left ⟦<M as Surroundings>⟧.around C.ticks
-        connections came gone clock clock_left answer)
-        → (other : HasServed in_memory other_opened other_left ⟦<OtherM as Surroundings>⟧.around OtherC.ticks
-        other_connections other_came other_gone other_clock other_clock_left other_answer)
+    ensures { (country : List ℕ) (H : ℕ) (connections other_connections : ℕ) (answer other_answer : Result Unit Error)
+        (old new : ServingState M.Incoming C PlainDesk) (other_old other_new : ServingState OtherM.Incoming OtherC PlainDesk)
+        → BeginsEmpty country old.desk → BeginsEmpty country other_old.desk
+        → (one : HasServed in_memory ⟦<M as Surroundings>⟧.around C.ticks connections old new answer)
+        → (other : HasServed in_memory ⟦<OtherM as Surroundings>⟧.around OtherC.ticks other_connections other_old other_new other_answer)
         → TellAlikeOver country H (map (λ connection. connection.exchanges) one.served.all_served)
         (map (λ connection. connection.exchanges) other.served.all_served) }
 {}
@@ -97,17 +87,14 @@ pub fn agreeing_servings_over_files_tell_the_same<
     OtherF: Disk,
 >()
     ensures { (country : List ℕ) (H : ℕ) (image other_image : Image) (is_new is_other_new : Bool)
-        (opened left : FileSeen F.Disk) (other_opened other_left : FileSeen OtherF.Disk)
         (connections other_connections : ℕ) (answer other_answer : Result Unit Error)
-        (came gone : M.Incoming) (clock clock_left : C)
-        (other_came other_gone : OtherM.Incoming) (other_clock other_clock_left : OtherC)
-        → BeginsIn is_new image country opened → BeginsIn is_other_new other_image country other_opened
-        → (one : HasServed over_file opened left ⟦<M as Surroundings>⟧.around C.ticks
-        connections came gone clock clock_left answer)
-        → (other : HasServed over_file other_opened other_left ⟦<OtherM as Surroundings>⟧.around OtherC.ticks
-        other_connections other_came other_gone other_clock other_clock_left other_answer)
-        → IsClean left → IsClean other_left
-        → BeginAlike country H (over_file.content opened) (over_file.content other_opened)
+        (old new : ServingState M.Incoming C (FileSeen F.Disk))
+        (other_old other_new : ServingState OtherM.Incoming OtherC (FileSeen OtherF.Disk))
+        → BeginsIn is_new image country old.desk → BeginsIn is_other_new other_image country other_old.desk
+        → (one : HasServed over_file ⟦<M as Surroundings>⟧.around C.ticks connections old new answer)
+        → (other : HasServed over_file ⟦<OtherM as Surroundings>⟧.around OtherC.ticks other_connections other_old other_new other_answer)
+        → IsClean new.desk → IsClean other_new.desk
+        → BeginAlike country H (over_file.content old.desk) (over_file.content other_old.desk)
         → TellAlikeOver country H (map (λ connection. connection.exchanges) one.served.all_served)
         (map (λ connection. connection.exchanges) other.served.all_served) }
 {}

@@ -1,7 +1,7 @@
 //! Files brought to the newest version of the tables.
 ghost use Rattle.std.specs.Prelude.{◌≡◌, IfOk, string_bytes};
 ghost use Rattle.td_cli.specs.Migrated.{IsMigrated, IsMigrationTold, message_of_version};
-ghost use Rattle.td_cli.specs.World.{IsLentStill, IsOfNoFile, lent_by, world_of};
+ghost use Rattle.td_cli.specs.World.{IsLentStill, OpensNoFile, lent_by, world_of};
 
 use crate::context::JobContext;
 use crate::exits::{Cause, Word, fault, of_file};
@@ -40,7 +40,7 @@ where
     // told: the file is of that version all the same.
     fn tell_migration(&mut self, alloc: Global, end: Result<u32, DeskFault>) -> u8
         ensures lent { IsLentStill self.old self.new }
-        ensures kept { IsOfNoFile (lent_by ⟦<M as Surroundings>⟧.around R.remaining W.contents E.contents V.known V.Disk.Disk O.known O.Disk.Disk)
+        ensures kept { OpensNoFile (lent_by ⟦<M as Surroundings>⟧.around R.remaining W.contents E.contents V.known V.Disk.Disk O.known O.Disk.Disk)
             (world_of _ self.old) (world_of _ self.new) }
         ensures told { IsMigrationTold (lent_by ⟦<M as Surroundings>⟧.around R.remaining W.contents E.contents V.known V.Disk.Disk O.known O.Disk.Disk)
             end (world_of _ self.old) (world_of _ self.new) result }

@@ -2,7 +2,7 @@
 ghost use Rattle.std.specs.Prelude.{◌≡◌, IfErr, IfOk, map, option_map};
 ghost use Rattle.td_journal_lines.specs.Rows.{numbered};
 ghost use Rattle.td_cli.specs.Replayed.{AreRowsOf, IsJournalReplayed, IsReplayAtDesk, IsUnreadFor};
-ghost use Rattle.td_cli.specs.World.{IsLentStill, IsOfOneFile, lent_by, world_of};
+ghost use Rattle.td_cli.specs.World.{IsLentStill, OpensDeskFileAlone, lent_by, world_of};
 ghost use Rattle.td_cli.specs.declared.exits.Cause.TheVariants.{Differs};
 
 use crate::context::JobContext;
@@ -59,7 +59,7 @@ where
         rows: Vec<ChangeRow>,
     ) -> u8
         ensures lent { IsLentStill self.old self.new }
-        ensures kept { IsOfOneFile (lent_by ⟦<M as Surroundings>⟧.around R.remaining W.contents E.contents V.known V.Disk.Disk O.known O.Disk.Disk)
+        ensures kept { OpensDeskFileAlone (lent_by ⟦<M as Surroundings>⟧.around R.remaining W.contents E.contents V.known V.Disk.Disk O.known O.Disk.Disk)
             (world_of _ self.old) (world_of _ self.new) }
         ensures done { IsReplayAtDesk (lent_by ⟦<M as Surroundings>⟧.around R.remaining W.contents E.contents V.known V.Disk.Disk O.known O.Disk.Disk)
             office.country records.now (map numbered rows.items) (world_of _ self.old) (world_of _ self.new) result }

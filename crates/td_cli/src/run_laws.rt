@@ -3,18 +3,16 @@ ghost use Rattle.std.specs.Prelude.{◌≡◌, ℕ, Bool, List, [], ◌∷◌, �
 ghost use Rattle.std.specs.declared.io.Error.{Error};
 ghost use Rattle.sqlite.specs.Files.{file_state};
 ghost use Rattle.sqlite_wal.specs.Recovery.{Image};
-ghost use Rattle.counted_io.specs.declared.counted.Counted.{Counted};
 ghost use Rattle.http_wire.specs.Stream.{Exchange};
 ghost use Rattle.http_wire.specs.declared.stream.StreamEnd.{StreamEnd};
 ghost use Rattle.td_files.specs.Found.{FileSeen, IsClean, over_file};
 ghost use Rattle.td_http.specs.ConnectionLaws.{TellAlikeOver};
-ghost use Rattle.td_http.specs.Connections.{Connection};
 ghost use Rattle.td_http.specs.Kept.{IsKeptBetween};
-ghost use Rattle.td_http.specs.KeptOver.{IsKeptWithin};
-ghost use Rattle.td_http.specs.Serving.{IsHeadHandledBy, desk_of};
+ghost use Rattle.td_http.specs.KeptOver.{Cut, IsKeptWithin};
 ghost use Rattle.td_jobs.specs.Desks.{BeginAlike, fresh_books};
 ghost use Rattle.td_cli.specs.Desks.{BeginsIn};
-ghost use Rattle.td_jobs.specs.Listening.{HasServed};
+ghost use Rattle.td_jobs.specs.Jobs.{JobState};
+ghost use Rattle.td_jobs.specs.Listening.{HasServed, ServingState};
 ghost use Rattle.td_jobs.specs.Piped.{IsPiped};
 ghost use Rattle.td_cli.specs.Runs.{GoesOnFrom, IsRun};
 
@@ -38,19 +36,16 @@ pub fn runs_over_one_file_are_one_run<
     F: Disk,
     OtherF: Disk,
 >()
-    ensures piped { (country : List ℕ) (is_new : Bool) (image : Image) (opened left : FileSeen F.Disk)
-        (reader reader_left : Counted R) (writer writer_left : Counted W) (clock clock_left : C) (end : StreamEnd)
-        → BeginsIn is_new image country opened
-        → (one : IsPiped over_file opened left R.remaining W.contents C.ticks
-        reader reader_left writer writer_left clock clock_left end)
-        → IsClean left → IsTrue (file_state left).is_open → IsRun country opened (one.served.run.exchanges ∷ []) left }
-    ensures served { (country : List ℕ) (is_new : Bool) (image : Image) (opened left : FileSeen F.Disk)
-        (connections : ℕ) (came gone : M.Incoming) (clock clock_left : C) (answer : Result Unit Error)
-        → BeginsIn is_new image country opened
-        → (one : HasServed over_file opened left ⟦<M as Surroundings>⟧.around C.ticks
-        connections came gone clock clock_left answer)
-        → IsClean left → IsTrue (file_state left).is_open
-        → IsRun country opened (map (λ connection. connection.exchanges) one.served.all_served) left }
+    ensures piped { (country : List ℕ) (is_new : Bool) (image : Image) (old new : JobState (FileSeen F.Disk) R W C) (end : StreamEnd)
+        → BeginsIn is_new image country old.desk
+        → (one : IsPiped over_file R.remaining W.contents C.ticks old new end)
+        → IsClean new.desk → IsTrue (file_state new.desk).is_open → IsRun country old.desk (one.served.run.exchanges ∷ []) new.desk }
+    ensures served { (country : List ℕ) (is_new : Bool) (image : Image) (connections : ℕ)
+        (old new : ServingState M.Incoming C (FileSeen F.Disk)) (answer : Result Unit Error)
+        → BeginsIn is_new image country old.desk
+        → (one : HasServed over_file ⟦<M as Surroundings>⟧.around C.ticks connections old new answer)
+        → IsClean new.desk → IsTrue (file_state new.desk).is_open
+        → IsRun country old.desk (map (λ connection. connection.exchanges) one.served.all_served) new.desk }
     ensures joined { (country : List ℕ) (opened between next left : FileSeen F.Disk) (streams others : List (List Exchange))
         → IsRun country opened streams between → GoesOnFrom country between next → IsRun country next others left
         → IsRun country opened (streams ++ others) left }
@@ -64,14 +59,13 @@ pub fn runs_over_one_file_are_one_run<
 /// there was a moment between them at which whatever a crash leaves is a desk's file, which the next opening takes: with the
 /// accepted changes of the first part, and at most one more, which was answered by a fixed reply.
 pub fn acknowledged_replies_are_kept_in_the_file<R: Read, W: Write, C: Clock, F: Disk>()
-    ensures { (country : List ℕ) (is_new : Bool) (image : Image) (opened left : FileSeen F.Disk)
-        (reader reader_left : Counted R) (writer writer_left : Counted W) (clock clock_left : C) (end : StreamEnd) (first others : List Exchange)
-        → BeginsIn is_new image country opened
-        → (one : IsPiped over_file opened left R.remaining W.contents C.ticks
-        reader reader_left writer writer_left clock clock_left end)
-        → IsClean left → one.served.run.exchanges ≡ first ++ others
-        → IsKeptBetween C.ticks desk_of over_file country (fresh_books (over_file.content opened)) first others
-        (clock, one.service) (clock_left, one.served.run.handler) }
+    ensures { (country : List ℕ) (is_new : Bool) (image : Image) (old new : JobState (FileSeen F.Disk) R W C) (end : StreamEnd)
+        (first others : List Exchange)
+        → BeginsIn is_new image country old.desk
+        → (one : IsPiped over_file R.remaining W.contents C.ticks old new end)
+        → IsClean new.desk → one.served.run.exchanges ≡ first ++ others
+        → IsKeptBetween C.ticks over_file country (fresh_books (over_file.content old.desk)) first others
+        (old.machine, one.service) (new.machine, one.served.run.handler) }
 {}
 
 /// The same of a serving over a file. Take any of its connections, and any two parts of that one's exchanges, one after the other:
@@ -79,15 +73,13 @@ pub fn acknowledged_replies_are_kept_in_the_file<R: Read, W: Write, C: Clock, F:
 /// accepted changes of all connections before this one and of the first part, and at most one more, which was answered by a fixed
 /// reply.
 pub fn acknowledged_connections_are_kept_in_the_file<M: Machine, C: Clock, F: Disk>()
-    ensures { (country : List ℕ) (is_new : Bool) (image : Image) (opened left : FileSeen F.Disk)
-        (connections : ℕ) (came gone : M.Incoming) (clock clock_left : C) (answer : Result Unit Error)
-        (before : List (Connection M.Incoming.Reader M.Incoming.Writer)) (connection : Connection M.Incoming.Reader M.Incoming.Writer)
-        (after : List (Connection M.Incoming.Reader M.Incoming.Writer)) (first others : List Exchange)
-        → BeginsIn is_new image country opened
-        → (one : HasServed over_file opened left ⟦<M as Surroundings>⟧.around C.ticks
-        connections came gone clock clock_left answer)
-        → IsClean left → one.served.all_served ≡ before ++ connection ∷ after → connection.exchanges ≡ first ++ others
-        → IsKeptWithin M.Incoming.Reader.remaining M.Incoming.Writer.contents M.Incoming.gives M.Incoming.takes C.ticks desk_of IsHeadHandledBy
-        over_file country (fresh_books (over_file.content opened)) before connection after first others
-        (record { source = came; clock = clock; handler = one.service }) one.served.last }
+    ensures { (country : List ℕ) (is_new : Bool) (image : Image) (connections : ℕ)
+        (old new : ServingState M.Incoming C (FileSeen F.Disk)) (answer : Result Unit Error)
+        (cut : Cut M.Incoming.Reader M.Incoming.Writer)
+        → BeginsIn is_new image country old.desk
+        → (one : HasServed over_file ⟦<M as Surroundings>⟧.around C.ticks connections old new answer)
+        → IsClean new.desk → one.served.all_served ≡ cut.before ++ cut.connection ∷ cut.after
+        → cut.connection.exchanges ≡ cut.first ++ cut.others
+        → IsKeptWithin ⟦<M as Surroundings>⟧.around.connections C.ticks over_file country (fresh_books (over_file.content old.desk)) cut
+        (record { source = old.source; clock = old.clock; handler = one.service }) one.served.last }
 {}

@@ -1,6 +1,7 @@
 //! A stream served at a desk, and connections to a port: at once, or by a standby desk, once it has followed a journal.
 ghost use Rattle.std.specs.Prelude.{◌≡◌, option_map, string_bytes};
 ghost use Rattle.td_cli.specs.Exits.{of_job, of_serving, of_standby, of_stream};
+ghost use Rattle.td_cli.specs.Journaled.{named_desk};
 ghost use Rattle.td_cli.specs.Served.{IsPipeDone, IsServingDone};
 ghost use Rattle.td_cli.specs.World.{IsLentStill, lent_by, world_of};
 
@@ -35,7 +36,8 @@ where
     ) -> u8
         ensures lent { IsLentStill self.old self.new }
         ensures done { IsPipeDone (lent_by ⟦<M as Surroundings>⟧.around R.remaining W.contents E.contents V.known V.Disk.Disk O.known O.Disk.Disk)
-            office records.now (option_map string_bytes journal.now) (world_of _ self.old) (world_of _ self.new) result }
+            (named_desk office records.now (option_map string_bytes journal.now))
+            (world_of _ self.old) (world_of _ self.new) result }
     {
         let end = self.with_journal(alloc, office, records, journal, Piping);
         exit(alloc, stream_cause(end), self.errors)
@@ -55,7 +57,8 @@ where
     ) -> u8
         ensures lent { IsLentStill self.old self.new }
         ensures done { IsServingDone (lent_by ⟦<M as Surroundings>⟧.around R.remaining W.contents E.contents V.known V.Disk.Disk O.known O.Disk.Disk)
-            first office records.now (option_map string_bytes journal.now) listening (world_of _ self.old) (world_of _ self.new) result }
+            first (named_desk office records.now (option_map string_bytes journal.now)) listening
+            (world_of _ self.old) (world_of _ self.new) result }
     {
         if first {
             let job = Following { job: listening };

@@ -2,7 +2,7 @@
 ghost use Rattle.std.specs.Prelude.{◌≡◌};
 ghost use Rattle.td_cli.specs.Performed.{IsUnread};
 ghost use Rattle.td_cli.specs.Told.{IsAnswered, IsPrinted, IsResultTold};
-ghost use Rattle.td_cli.specs.World.{IsLentStill, IsOfNoFile, lent_by, world_of};
+ghost use Rattle.td_cli.specs.World.{IsLentStill, OpensNoFile, lent_by, world_of};
 
 use crate::context::JobContext;
 use crate::exits::{Cause, WRONG_WORDS, Word, exit, fault, of_stop};
@@ -26,7 +26,7 @@ where
     /// Prints a text, tells the cause that ended the job, if any, and gives the status; or tells that the text couldn't be printed.
     pub(crate) fn print(&mut self, alloc: Global, text: &[u8], cause: Option<Cause>) -> u8
         ensures lent { IsLentStill self.old self.new }
-        ensures kept { IsOfNoFile (lent_by ⟦<M as Surroundings>⟧.around R.remaining W.contents E.contents V.known V.Disk.Disk O.known O.Disk.Disk)
+        ensures kept { OpensNoFile (lent_by ⟦<M as Surroundings>⟧.around R.remaining W.contents E.contents V.known V.Disk.Disk O.known O.Disk.Disk)
             (world_of _ self.old) (world_of _ self.new) }
         ensures printed { IsPrinted (lent_by ⟦<M as Surroundings>⟧.around R.remaining W.contents E.contents V.known V.Disk.Disk O.known O.Disk.Disk)
             text.now cause (world_of _ self.old) (world_of _ self.new) result }
@@ -48,7 +48,7 @@ where
         cause: Option<Cause>,
     ) -> u8
         ensures lent { IsLentStill self.old self.new }
-        ensures kept { IsOfNoFile (lent_by ⟦<M as Surroundings>⟧.around R.remaining W.contents E.contents V.known V.Disk.Disk O.known O.Disk.Disk)
+        ensures kept { OpensNoFile (lent_by ⟦<M as Surroundings>⟧.around R.remaining W.contents E.contents V.known V.Disk.Disk O.known O.Disk.Disk)
             (world_of _ self.old) (world_of _ self.new) }
         ensures told { IsResultTold (lent_by ⟦<M as Surroundings>⟧.around R.remaining W.contents E.contents V.known V.Disk.Disk O.known O.Disk.Disk)
             text.now stopped cause (world_of _ self.old) (world_of _ self.new) result }
@@ -63,7 +63,7 @@ where
     /// Says why the words ask for no job, and gives the status of it. Help that was asked for is printed.
     pub(crate) fn answer(&mut self, alloc: Global, no_job: &NoJob) -> u8
         ensures lent { IsLentStill self.old self.new }
-        ensures kept { IsOfNoFile (lent_by ⟦<M as Surroundings>⟧.around R.remaining W.contents E.contents V.known V.Disk.Disk O.known O.Disk.Disk)
+        ensures kept { OpensNoFile (lent_by ⟦<M as Surroundings>⟧.around R.remaining W.contents E.contents V.known V.Disk.Disk O.known O.Disk.Disk)
             (world_of _ self.old) (world_of _ self.new) }
         ensures answered { IsAnswered (lent_by ⟦<M as Surroundings>⟧.around R.remaining W.contents E.contents V.known V.Disk.Disk O.known O.Disk.Disk)
             no_job.now (world_of _ self.old) (world_of _ self.new) result }

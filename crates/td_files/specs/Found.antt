@@ -28,6 +28,14 @@ use Rattle.td_files.specs.declared.desks.DeskFault.{DeskFault}
 use Rattle.td_files.specs.declared.desks.DeskFault.TheVariants.{File, Refused}
 use Rattle.td_files.specs.declared.files.OneFile.{OneFile}
 
+-- a file that is named: what is known of its drive, and the path there
+pub record NamedFile (V D : Type 0) : Type 1 where
+  pub drive : KnownDrive V D
+  pub path : List ℕ
+
+abbrev pub file_at : {V D : Type 0} → KnownDrive V D → List ℕ → NamedFile V D
+file_at drive path = record { drive = drive; path = path }
+
 -- the database is the one that files hold which hold this, and its schema is the one that its trees list
 pub record IsFoundIn (image : Image) (db : Database) : Type 0 where
   pub listed : IsDatabase db

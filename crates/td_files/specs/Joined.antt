@@ -12,9 +12,8 @@ use Rattle.typed_sql.specs.Outside.{CrashLeavesShown}
 use Rattle.td_join.specs.Joined.{AreApart, IsFirstOfBoth, joined}
 use Rattle.td_join.specs.declared.fault.JoinFault.{JoinFault}
 use Rattle.td_join.specs.declared.fault.JoinFault.TheVariants as join
-use Rattle.td_machine.specs.Drive.{KnownDrive}
 use Rattle.td_files.specs.Extracted.{IsReadFrom}
-use Rattle.td_files.specs.Found.{FileHeld, FileSeen, FoundAt, HasNoDesk, IsClean, IsOpenedDesk, content_in, over_file}
+use Rattle.td_files.specs.Found.{FileHeld, FileSeen, FoundAt, HasNoDesk, IsClean, IsOpenedDesk, NamedFile, content_in, over_file}
 use Rattle.td_files.specs.Faults as fault
 use Rattle.td_files.specs.declared.desks.DeskFault.{DeskFault}
 use Rattle.td_files.specs.declared.desks.DeskFault.TheVariants.{Refused}
@@ -42,23 +41,23 @@ pub record HasJoined (country : List ℕ) (c : Content) (old left : State) (resu
   pub leaves : HasCleanDisk left → (d : Content) → HoldsContent d old → d.country ≡ country
       → (trees : Trees) → left.may_leave trees → old.may_leave trees ⊎ AreTreesOf (joined c d) trees
 
--- What the file at the path holds was to be put into a desk's file. There was no desk over the first, and the second is as it was. Or there
+-- What a file holds was to be put into a desk's file. There was no desk over the first, and the second is as it was. Or there
 -- was one, which was only looked at, and its content was to be put into the second.
-abbrev pub IsPutInto : {V D T : Type 0} {g : disk.Ghosts D} → store.Ghosts T → KnownDrive V D → List ℕ → List ℕ → FileHeld V g → FileHeld V g
+abbrev pub IsPutInto : {V D T : Type 0} {g : disk.Ghosts D} → store.Ghosts T → NamedFile V D → List ℕ → FileHeld V g → FileHeld V g
     → Held T → Held T → Result (Unit {0}) JoinRefusal → Type 0
-IsPutInto {g = g} over known country path before file old left result =
-    ((why : DeskFault) × (result ≡ Err (File why)) × HasNoDesk known country path before file why × (left ≡ old))
+IsPutInto {g = g} over from country before file old left result =
+    ((why : DeskFault) × (result ≡ Err (File why)) × HasNoDesk from.drive country from.path before file why × (left ≡ old))
     ⊎ ((read : FileSeen g) × (read_left : FileSeen g)
-    × FoundAt known path false before file (λ image. IsReadFrom image country (is_ok result) file read read_left)
+    × FoundAt from.drive from.path false before file (λ image. IsReadFrom image country (is_ok result) file read read_left)
     × (HasCleanDisk (state over left) → HasCleanDisk (state over old))
     × (IsClean read_left → HasJoined country (over_file.content read) (state over old) (state over left) result))
 
--- No desk was opened over the file at the path, and the other wasn't touched. Or one was, and what the file at the other path holds was to be
+-- No desk was opened over the first file, and the other wasn't touched. Or one was, and what the other file holds was to be
 -- put into it: what its connection shows now, a crash leaves.
-abbrev pub IsJoined : {V O D E : Type 0} {g : disk.Ghosts D} {h : disk.Ghosts E} → KnownDrive V D → KnownDrive O E → List ℕ → List ℕ → List ℕ
+abbrev pub IsJoined : {V O D E : Type 0} {g : disk.Ghosts D} {h : disk.Ghosts E} → NamedFile V D → NamedFile O E → List ℕ
     → FileHeld V g → FileHeld V g → FileHeld O h → FileHeld O h → Result (Unit {0}) JoinRefusal → Type 0
-IsJoined {g = g} known other_known country path other_path before file other other_left result =
-    ((why : DeskFault) × (result ≡ Err (File why)) × HasNoDesk known country path before file why × (other_left ≡ other))
+IsJoined {g = g} into from country before file other other_left result =
+    ((why : DeskFault) × (result ≡ Err (File why)) × HasNoDesk into.drive country into.path before file why × (other_left ≡ other))
     ⊎ ((opened : FileSeen g) × (left : FileSeen g) × (file.connection ≡ Some left) × CrashLeavesShown (file_state left)
-    × FoundAt known path false before file (λ image. IsClean opened → IsOpenedDesk image country opened)
-    × IsPutInto over_files other_known country other_path other other_left opened left result)
+    × FoundAt into.drive into.path false before file (λ image. IsClean opened → IsOpenedDesk image country opened)
+    × IsPutInto over_files from country other other_left opened left result)

@@ -6,7 +6,7 @@ ghost use Rattle.td_desk.specs.declared.fault.Fault.TheVariants as fault;
 ghost use Rattle.td_store_rows.specs.StoreReads.{HasNewestTables};
 ghost use Rattle.typed_sql.specs.Outside.{CrashLeavesShown, Looks};
 ghost use Rattle.td_files.specs.Extracted.{IsExtracted, IsPartMade};
-ghost use Rattle.td_files.specs.Found.{IsStoreOrMemory};
+ghost use Rattle.td_files.specs.Found.{IsStoreOrMemory, file_at};
 ghost use Rattle.td_store.specs.declared.refused.OpenFault.TheVariants as open_fault;
 
 use crate::desks::DeskFault;
@@ -47,7 +47,7 @@ impl<N: Drive> OneFile<N, <N as Drive>::Disk> {
         ensures ended { from.new.in_transaction ≡ false }
         ensures looks { Looks (is_ok result) (state S.Store from.old) (state S.Store from.new) }
         ensures settled { CrashLeavesShown (state S.Store from.new) }
-        ensures made { IsPartMade N.known country first last path.now (state S.Store from.old) (state S.Store from.new) self.old self.new result }
+        ensures made { IsPartMade (file_at N.known path.now) (record { country = country; first = first; last = last }) (state S.Store from.old) (state S.Store from.new) self.old self.new result }
     {
         see_settled(from);
         let mut to = match self.open(alloc, path, true) {
@@ -80,7 +80,8 @@ impl<V: Drive> OneFile<V, <V as Drive>::Disk> {
         new: &mut DeskFile<N>,
         new_path: &str,
     ) -> Result<(), DeskFault>
-        ensures { IsExtracted V.known N.known country first last path.now new_path.now self.old self.new new.old new.new result }
+        ensures { IsExtracted (file_at V.known path.now) (file_at N.known new_path.now)
+            (record { country = country; first = first; last = last }) self.old self.new new.old new.new result }
     {
         let desk = match self.open_desk(alloc, country, path) {
             Ok(desk) => desk,

@@ -2,6 +2,7 @@
 ghost use Rattle.std.specs.Prelude.{◌≡◌, false};
 ghost use Rattle.sqlite.specs.Held.{state};
 ghost use Rattle.typed_sql.specs.Outside.{CrashLeavesShown};
+ghost use Rattle.td_files.specs.Found.{file_at};
 ghost use Rattle.td_files.specs.Joined.{IsJoined, IsPutInto, refused_for};
 
 use crate::desks::DeskFault;
@@ -46,7 +47,7 @@ impl<O: Drive> OneFile<O, <O as Drive>::Disk> {
         requires outside { to.old.in_transaction ≡ false }
         ensures ended { to.new.in_transaction ≡ false }
         ensures settled { CrashLeavesShown (state T.Store to.new) }
-        ensures put { IsPutInto T.Store O.known country path.now self.old self.new to.old to.new result }
+        ensures put { IsPutInto T.Store (file_at O.known path.now) country self.old self.new to.old to.new result }
     {
         see_settled(to);
         let desk = match self.open_desk(alloc, country, path) {
@@ -76,7 +77,7 @@ impl<V: Drive> OneFile<V, <V as Drive>::Disk> {
         other: &mut DeskFile<O>,
         other_path: &str,
     ) -> Result<(), JoinRefusal>
-        ensures { IsJoined V.known O.known country path.now other_path.now self.old self.new other.old other.new result }
+        ensures { IsJoined (file_at V.known path.now) (file_at O.known other_path.now) country self.old self.new other.old other.new result }
     {
         let desk = match self.open_desk(alloc, country, path) {
             Ok(desk) => desk,

@@ -21,7 +21,8 @@ use Rattle.http_wire.specs.ReplyText.{is_made}
 use Rattle.http_wire.specs.Wire.{Asked}
 use Rattle.http_wire.specs.Stream.{Chain, Exchange, question}
 use Rattle.td_http.specs.Kept.{books_after, books_with, HasFailed, HasFailedIn, IsKeptIn, IsKeptBetween}
-use Rattle.td_http.specs.Serving.{command_in, commands_of, heard_by, heard_in, IsHandled, IsReplyTo}
+use Rattle.td_http.specs.Serving.{command_in, commands_of, desk_of, heard_by, heard_in, IsHandled, IsHandledBy, IsReplyTo}
+use Rattle.td_http.specs.declared.service.Service.{Service}
 use Rattle.td_http.proofs.Served.{chain_clean, fixed_reply, machine_book-++, no_run}
 
 -- a content is tied to books that are the same
@@ -231,14 +232,14 @@ keeps_first view country books d live country_is sound tied settled =
     }
 
 -- between any exchanges of a chain that leaves the desk clean
-pub kept_between : {C S D : Type 0} (ticks : C → ℤ → C → Type 0) (desk : S → D) (view : DeskView D) (country : List ℕ) (books : ℕ → Book)
-    (es first others : List Exchange) (old new : C × S) → Keeps view country (λ s. ⊥) books (desk old.1) → Chain ticks (IsHandled desk view) 0 old es new
-    → view.is_clean (desk new.1) → es ≡ first ++ others → IsKeptBetween ticks desk view country books first others old new
-kept_between ticks desk view country books es first others old new start chain clean are =
-    let split = chain_split ticks (IsHandled desk view) first others 0 (length first) old new (omega arith)
-    (subst (λ (list : List Exchange). Chain ticks (IsHandled desk view) 0 old list new) are chain) in
-    let clean_then = chain_clean ticks desk view others (length first) split.0 new split.2 clean in
-    let keeps = keeps_chain ticks desk view country first 0 (λ s. ⊥) books old split.0 start split.1 clean_then in
+pub kept_between : {C D : Type 0} (ticks : C → ℤ → C → Type 0) (view : DeskView D) (country : List ℕ) (books : ℕ → Book)
+    (es first others : List Exchange) (old new : C × Service D) → Keeps view country (λ s. ⊥) books (desk_of old.1) → Chain ticks (IsHandledBy view) 0 old es new
+    → view.is_clean (desk_of new.1) → es ≡ first ++ others → IsKeptBetween ticks view country books first others old new
+kept_between ticks view country books es first others old new start chain clean are =
+    let split = chain_split ticks (IsHandledBy view) first others 0 (length first) old new (omega arith)
+    (subst (λ (list : List Exchange). Chain ticks (IsHandledBy view) 0 old list new) are chain) in
+    let clean_then = chain_clean ticks desk_of view others (length first) split.0 new split.2 clean in
+    let keeps = keeps_chain ticks desk_of view country first 0 (λ s. ⊥) books old split.0 start split.1 clean_then in
     record {
       between = split.0;
       led = split.1;

@@ -1,5 +1,5 @@
 -- What connections one after another tell each holder.
-use Rattle.std.proofs.Common.{◌≡◌, ℕ, ℤ, List, [], ◌∷◌, ◌++◌, map, Option, refl, sym, ◌∙◌, ap, subst}
+use Rattle.std.proofs.Common.{◌≡◌, ℕ, ℤ, List, [], ◌∷◌, ◌++◌, map, refl, sym, ◌∙◌, ap, subst}
 use Rattle.std.proofs.lemmas.Grind.{flat_map-append}
 use Rattle.std.proofs.lemmas.List.{map-append}
 use Rattle.std.proofs.lemmas.List.Elements.{All-append, All-cons, All-nil}
@@ -10,10 +10,10 @@ use Rattle.td_desk.specs.View.{DeskView}
 use Rattle.td_desk.specs.Runs.{IsTied}
 use Rattle.http_wire.specs.Stream.{Exchange}
 use Rattle.td_http.specs.declared.service.Service.{Service}
-use Rattle.td_http.specs.Serving.{desk_of, IsHandledBy, IsHeadHandledBy, HolderRequest, FaultsAreTold, NobodysAreTold, commands_of, heard_in, told_in, machine_replies, IsServed}
+use Rattle.td_http.specs.Serving.{desk_of, HolderRequest, FaultsAreTold, NobodysAreTold, commands_of, heard_in, told_in, machine_replies, IsServed}
 use Rattle.td_http.proofs.Served.{machine_book-++}
 use Rattle.td_http.proofs.Streamed.{stream_clean, stream_served}
-use Rattle.td_http.specs.Connections.{Between, Connection, IsServedConnection, ServedConnections}
+use Rattle.td_http.specs.Connections.{Between, Connection, IsServedConnection, KnownConnections, ServedConnections, desk_server}
 use Rattle.td_http.specs.Kept.{books_after}
 use Rattle.td_http.specs.Private.{heard_over, books_over, IsServedOver, IsPrivateOver}
 
@@ -93,18 +93,14 @@ served_nothing country books rows same sound tied = record {
   tied = record { each = tied.each; grown = tied.grown };
 }
 
-module _ {R W C D L : Type 0} (remaining : R → Option (List ℕ)) (contents : W → Option (List ℕ))
-    (gives takes : L → R → W → L → Type 0) (ticks : C → ℤ → C → Type 0)
-    (view : DeskView D) where
+module _ {R W C D L : Type 0} (known : KnownConnections L R W) (ticks : C → ℤ → C → Type 0) (view : DeskView D) where
   -- connections at a service of the desk
   abbrev Served : Between L C (Service D) → List (Connection R W) → Between L C (Service D) → Type 0
-  Served = ServedConnections remaining contents gives takes ticks
-      (IsHandledBy view) IsHeadHandledBy
+  Served = ServedConnections known (desk_server ticks view)
 
   -- one of them
   abbrev OneServed : Between L C (Service D) → Connection R W → Between L C (Service D) → Type 0
-  OneServed = IsServedConnection remaining contents gives takes ticks
-      (IsHandledBy view) IsHeadHandledBy
+  OneServed = IsServedConnection known (desk_server ticks view)
 
   -- their requests with their replies
   abbrev streams_of : List (Connection R W) → List (List Exchange)

@@ -1,5 +1,5 @@
 -- What two lists of connections, one after another, tell one holder.
-use Rattle.std.specs.Prelude.{◌≡◌, ℕ, ℤ, List, map, Option, Result}
+use Rattle.std.specs.Prelude.{◌≡◌, ℕ, ℤ, List, map, Result}
 use Rattle.std.specs.List.{flat_map}
 use Rattle.std.specs.declared.io.Error.{Error}
 use Rattle.td_model.specs.Book.{Book}
@@ -9,8 +9,8 @@ use Rattle.http_wire.specs.ReplyText.{bytes_of, is_made}
 use Rattle.http_wire.specs.Stream.{Exchange}
 use Rattle.td_http.specs.declared.service.Service.{Service}
 use Rattle.td_http.specs.Laws.{asked_in, replies_in, fault_told, IsDeskOf}
-use Rattle.td_http.specs.Serving.{desk_of, IsHandledBy, IsHeadHandledBy, HolderRequest}
-use Rattle.td_http.specs.Connections.{Between, ServesConnections}
+use Rattle.td_http.specs.Serving.{desk_of, HolderRequest}
+use Rattle.td_http.specs.Connections.{Between, KnownConnections, ServesConnections, desk_server}
 use Rattle.td_http.specs.Private.{heard_over, told_over, IsPrivateOver}
 
 -- H's commands over all streams, in their order, whether they failed or not: each with its moment, and whether
@@ -60,16 +60,12 @@ pub record TellAlikeOver (country : List ℕ) (H : ℕ) (streams others : List (
       → ToldAlikeOver country H streams others
   pub heard : HeardAlikeOver country H streams others → ToldAlikeOver country H streams others
 
--- So many connections that were asked for at such a desk, and left it clean. The last two parts are what
--- `serve_connections` promises.
-pub record AreServedAt {R W C D L : Type 0} (remaining : R → Option (List ℕ)) (contents : W → Option (List ℕ))
-    (gives takes : L → R → W → L → Type 0) (refuses : L → Error → L → Type 0) (ticks : C → ℤ → C → Type 0)
-    (view : DeskView D)
-    (country : List ℕ) (books : ℕ → Book) (old new : Between L C (Service D)) (count : ℕ)
-    (answer : Result Unit Error) : Type 0 where
+-- So many connections that were asked for at such a desk, and left it clean. The last part is what `serve_connections`
+-- promises beside that they were served.
+pub record AreServedAt {R W C D L : Type 0} {known : KnownConnections L R W} {ticks : C → ℤ → C → Type 0} {old new : Between L C (Service D)}
+    {count : ℕ} {answer : Result Unit Error} (view : DeskView D) (country : List ℕ) (books : ℕ → Book)
+    (served : ServesConnections known (desk_server ticks view) old new count answer) : Type 0 where
   pub desk : IsDeskOf view country books old.handler
   pub clean : view.is_clean (desk_of new.handler)
-  pub served : ServesConnections remaining contents gives takes refuses ticks
-      (IsHandledBy view) IsHeadHandledBy old new count answer
   pub private : IsPrivateOver view old.handler new.handler
       (map (λ connection. connection.exchanges) served.all_served)

@@ -9,7 +9,8 @@ use Rattle.td_desk.specs.Runs.{IsTied, is_holder}
 use Rattle.td_desk.specs.View.{DeskView}
 use Rattle.http_wire.specs.ReplyText.{is_made}
 use Rattle.http_wire.specs.Stream.{Chain, Exchange, question}
-use Rattle.td_http.specs.Serving.{command_in, commands_of, heard_in, IsHandled}
+use Rattle.td_http.specs.Serving.{command_in, commands_of, desk_of, heard_in, IsHandledBy}
+use Rattle.td_http.specs.declared.service.Service.{Service}
 
 -- the books that the machines end with after exchanges that come after so many
 abbrev pub books_after : List ℕ → (ℕ → Book) → ℕ → List Exchange → ℕ → Book
@@ -44,11 +45,11 @@ IsKept country books es x = IsKeptIn country (HasFailedIn 0 es) (books_after cou
 -- Between some exchanges of a stream and those after them there was a moment, to which the first led and from which the others
 -- lead. The desk then had sound content, so that each guarantee is covered, while no fault had shut it; and whatever a crash
 -- leaves then is a desk, whose content is one after the first exchanges.
-pub record IsKeptBetween {C S D : Type 0} (ticks : C → ℤ → C → Type 0) (desk : S → D) (view : DeskView D) (country : List ℕ) (books : ℕ → Book)
-    (first others : List Exchange) (old new : C × S) : Type 0 where
-  pub between : C × S
-  pub led : Chain ticks (IsHandled desk view) 0 old first between
-  pub leads : Chain ticks (IsHandled desk view) (length first) between others new
-  pub sound : view.is_live (desk between.1) → IsSound (view.content (desk between.1))
-  pub recovers : view.recovers (desk between.1)
-  pub kept : (x : Content) → view.may_leave (desk between.1) x → IsKept country books first x
+pub record IsKeptBetween {C D : Type 0} (ticks : C → ℤ → C → Type 0) (view : DeskView D) (country : List ℕ) (books : ℕ → Book)
+    (first others : List Exchange) (old new : C × Service D) : Type 0 where
+  pub between : C × Service D
+  pub led : Chain ticks (IsHandledBy view) 0 old first between
+  pub leads : Chain ticks (IsHandledBy view) (length first) between others new
+  pub sound : view.is_live (desk_of between.1) → IsSound (view.content (desk_of between.1))
+  pub recovers : view.recovers (desk_of between.1)
+  pub kept : (x : Content) → view.may_leave (desk_of between.1) x → IsKept country books first x

@@ -97,16 +97,14 @@ pub record IsDeskOf {D : Type 0} (view : DeskView D)
   pub sound : IsSound (view.content (desk_of service))
   pub tied : IsTied (view.content (desk_of service)) books
 
--- A stream that was served at such a desk, and left it clean. The last two parts are what `serve_stream`
--- promises.
-pub record IsStreamAt {R W C D : Type 0} (remaining : R → Option (List ℕ)) (contents : W → Option (List ℕ))
-    (ticks : C → ℤ → C → Type 0)
-    (view : DeskView D)
-    (country : List ℕ) (books : ℕ → Book) (old new : Sides R W C (Service D)) (end : StreamEnd) : Type 0 where
+-- A stream that was served at such a desk, and left it clean. The last part is what `serve_stream` promises beside that it
+-- was served.
+pub record IsStreamAt {R W C D : Type 0} {remaining : R → Option (List ℕ)} {contents : W → Option (List ℕ)}
+    {ticks : C → ℤ → C → Type 0} {old new : Sides R W C (Service D)} {end : StreamEnd} (view : DeskView D)
+    (country : List ℕ) (books : ℕ → Book)
+    (served : Serves remaining contents ticks (IsHandledBy view) IsHeadHandledBy old new end) : Type 0 where
   pub desk : IsDeskOf view country books old.handler
   pub clean : view.is_clean (desk_of new.handler)
-  pub served : Serves remaining contents ticks
-      (IsHandledBy view) IsHeadHandledBy old new end
   pub private : IsPrivate view old.handler new.handler served.run.exchanges
 
 -- One request that was handled at such a desk. The last part is what `Service::handle` promises.

@@ -2,13 +2,12 @@
 ghost use Rattle.std.specs.Prelude.{◌≡◌, ℕ, List, ◌∷◌, ◌++◌, map, Result};
 ghost use Rattle.std.specs.declared.io.Error.{Error};
 ghost use Rattle.td_model.specs.Book.{Book};
-ghost use Rattle.http_wire.specs.Stream.{Exchange};
 ghost use Rattle.td_desk.specs.View.{IsSettled};
 ghost use Rattle.td_http.specs.declared.service.Service.{Service};
 ghost use Rattle.td_http.specs.ConnectionLaws.{AreServedAt, TellAlikeOver};
-ghost use Rattle.td_http.specs.Connections.{Between, Connection};
-ghost use Rattle.td_http.specs.KeptOver.{IsKeptWithin};
-ghost use Rattle.td_http.specs.Serving.{desk_of, IsHeadHandledBy};
+ghost use Rattle.td_http.specs.Connections.{Between, ServesConnections, connections_by, desk_server};
+ghost use Rattle.td_http.specs.KeptOver.{Cut, IsKeptWithin};
+ghost use Rattle.td_http.specs.Serving.{desk_of};
 
 use crate::Clock;
 use crate::connections::Connections;
@@ -32,14 +31,15 @@ pub fn agreeing_connections_tell_the_same<
         (old new : Between L C (Service D)) (count : ℕ) (answer : Result Unit Error)
         (other_old other_new : Between OtherL OtherC (Service OtherD)) (other_count : ℕ)
         (other_answer : Result Unit Error)
-        → (one : AreServedAt L.Reader.remaining L.Writer.contents L.gives L.takes L.refuses C.ticks
-        D.seen country books old new count answer)
-        → (other : AreServedAt OtherL.Reader.remaining OtherL.Writer.contents OtherL.gives OtherL.takes
-        OtherL.refuses OtherC.ticks OtherD.seen
-        country others other_old other_new other_count other_answer)
+        → (one : ServesConnections (connections_by L.Reader.remaining L.Writer.contents L.gives L.takes L.refuses)
+        (desk_server C.ticks D.seen) old new count answer)
+        → (other : ServesConnections (connections_by OtherL.Reader.remaining OtherL.Writer.contents OtherL.gives OtherL.takes OtherL.refuses)
+        (desk_server OtherC.ticks OtherD.seen) other_old other_new other_count other_answer)
+        → AreServedAt D.seen country books one
+        → AreServedAt OtherD.seen country others other
         → books H ≡ others H
-        → TellAlikeOver country H (map (λ connection. connection.exchanges) one.served.all_served)
-        (map (λ connection. connection.exchanges) other.served.all_served) }
+        → TellAlikeOver country H (map (λ connection. connection.exchanges) one.all_served)
+        (map (λ connection. connection.exchanges) other.all_served) }
 {}
 
 /// What was acknowledged is kept, whatever connection it came over. Take any of the connections that were served at a clean desk, and
@@ -48,13 +48,13 @@ pub fn agreeing_connections_tell_the_same<
 /// a fixed reply. While no fault has shut the desk, its content was sound then.
 pub fn acknowledged_connections_are_kept<L: Connections, C: Clock, D: Desk>()
     ensures { (country : List ℕ) (books : ℕ → Book) (old new : Between L C (Service D)) (count : ℕ) (answer : Result Unit Error)
-        (before : List (Connection L.Reader L.Writer)) (connection : Connection L.Reader L.Writer)
-        (after : List (Connection L.Reader L.Writer)) (first others : List Exchange)
-        → (are : AreServedAt L.Reader.remaining L.Writer.contents L.gives L.takes L.refuses C.ticks
-        D.seen country books old new count answer)
+        (cut : Cut L.Reader L.Writer)
+        → (served : ServesConnections (connections_by L.Reader.remaining L.Writer.contents L.gives L.takes L.refuses)
+        (desk_server C.ticks D.seen) old new count answer)
+        → AreServedAt D.seen country books served
         → IsSettled D.seen (desk_of old.handler)
-        → are.served.all_served ≡ before ++ connection ∷ after
-        → connection.exchanges ≡ first ++ others
-        → IsKeptWithin L.Reader.remaining L.Writer.contents L.gives L.takes C.ticks desk_of IsHeadHandledBy D.seen
-        country books before connection after first others old are.served.last }
+        → served.all_served ≡ cut.before ++ cut.connection ∷ cut.after
+        → cut.connection.exchanges ≡ cut.first ++ cut.others
+        → IsKeptWithin (connections_by L.Reader.remaining L.Writer.contents L.gives L.takes L.refuses) C.ticks D.seen
+        country books cut old served.last }
 {}

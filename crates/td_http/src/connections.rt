@@ -1,8 +1,7 @@
 //! Connections served one after another.
 ghost use Rattle.std.specs.Prelude.{map};
-ghost use Rattle.td_http.specs.Connections.{ServesConnections, ServesNext};
+ghost use Rattle.td_http.specs.Connections.{ServesConnections, ServesNext, connections_by, desk_server};
 ghost use Rattle.td_http.specs.Private.{IsPrivateOver};
-ghost use Rattle.td_http.specs.Serving.{IsHandledBy, IsHeadHandledBy};
 
 use crate::{Clock, Service, serve_stream};
 use std::alloc::Global;
@@ -48,8 +47,7 @@ fn serve_next<L: Connections, C: Clock, D: Desk>(
     clock: &mut C,
     service: &mut Service<D>,
 ) -> io::Result<()>
-    ensures { ServesNext L.Reader.remaining L.Writer.contents L.gives L.takes L.refuses
-        C.ticks (IsHandledBy D.seen) IsHeadHandledBy
+    ensures { ServesNext (connections_by L.Reader.remaining L.Writer.contents L.gives L.takes L.refuses) (desk_server C.ticks D.seen)
         (record { source = connections.old; clock = clock.old; handler = service.old })
         (record { source = connections.new; clock = clock.new; handler = service.new }) result }
 {
@@ -75,8 +73,8 @@ pub fn serve_connections<L: Connections, C: Clock, D: Desk>(
     clock: &mut C,
     service: &mut Service<D>,
 ) -> io::Result<()>
-    ensures { (served : ServesConnections L.Reader.remaining L.Writer.contents L.gives L.takes L.refuses
-        C.ticks (IsHandledBy D.seen) IsHeadHandledBy
+    ensures { (served : ServesConnections
+        (connections_by L.Reader.remaining L.Writer.contents L.gives L.takes L.refuses) (desk_server C.ticks D.seen)
         (record { source = connections.old; clock = clock.old; handler = service.old })
         (record { source = connections.new; clock = clock.new; handler = service.new }) count result)
         × IsPrivateOver D.seen service.old service.new

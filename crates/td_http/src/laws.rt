@@ -7,12 +7,12 @@ ghost use Rattle.http_wire.specs.declared.reply.Reply.{Reply};
 ghost use Rattle.http_wire.specs.declared.stream.StreamEnd.{StreamEnd};
 ghost use Rattle.http_wire.specs.Wire.{Asked};
 ghost use Rattle.http_wire.specs.ReplyText.{bytes_of};
-ghost use Rattle.http_wire.specs.Stream.{Exchange, Sides};
+ghost use Rattle.http_wire.specs.Stream.{Exchange, Serves, Sides};
 ghost use Rattle.td_desk.specs.View.{IsSettled};
 ghost use Rattle.td_http.specs.declared.service.Service.{Service};
 ghost use Rattle.td_http.specs.Laws.{IsRequestAt, IsStreamAt, TellAlike, fault_told};
 ghost use Rattle.td_http.specs.Kept.{IsKeptBetween};
-ghost use Rattle.td_http.specs.Serving.{command_in, desk_of};
+ghost use Rattle.td_http.specs.Serving.{IsHandledBy, IsHeadHandledBy, command_in, desk_of};
 
 use http_wire::Clock;
 use std::io::{Read, Write};
@@ -36,11 +36,12 @@ pub fn agreeing_streams_tell_the_same<
     ensures { (country : List ℕ) (H : ℕ) (books others : ℕ → Book)
         (old new : Sides R W C (Service D)) (end : StreamEnd)
         (other_old other_new : Sides OtherR OtherW OtherC (Service OtherD)) (other_end : StreamEnd)
-        → (one : IsStreamAt R.remaining W.contents C.ticks D.seen
-        country books old new end)
-        → (other : IsStreamAt OtherR.remaining OtherW.contents OtherC.ticks OtherD.seen country others other_old other_new other_end)
+        → (one : Serves R.remaining W.contents C.ticks (IsHandledBy D.seen) IsHeadHandledBy old new end)
+        → (other : Serves OtherR.remaining OtherW.contents OtherC.ticks (IsHandledBy OtherD.seen) IsHeadHandledBy other_old other_new other_end)
+        → IsStreamAt D.seen country books one
+        → IsStreamAt OtherD.seen country others other
         → books H ≡ others H
-        → TellAlike country H one.served.run.exchanges other.served.run.exchanges }
+        → TellAlike country H one.run.exchanges other.run.exchanges }
 {}
 
 /// The same of one call of `Service::handle` each: a command of H's at one moment, whose replies have to
@@ -65,9 +66,9 @@ pub fn equal_requests_are_told_the_same<D: Desk, OtherD: Desk>()
 pub fn acknowledged_replies_are_kept<R: Read, W: Write, C: Clock, D: Desk>()
     ensures { (country : List ℕ) (books : ℕ → Book) (old new : Sides R W C (Service D)) (end : StreamEnd)
         (first others : List Exchange)
-        → (stream : IsStreamAt R.remaining W.contents C.ticks D.seen country books old new end)
+        → (served : Serves R.remaining W.contents C.ticks (IsHandledBy D.seen) IsHeadHandledBy old new end)
+        → IsStreamAt D.seen country books served
         → IsSettled D.seen (desk_of old.handler)
-        → stream.served.run.exchanges ≡ first ++ others
-        → IsKeptBetween C.ticks desk_of D.seen country books first others (old.clock, old.handler)
-        (new.clock, stream.served.run.handler) }
+        → served.run.exchanges ≡ first ++ others
+        → IsKeptBetween C.ticks D.seen country books first others (old.clock, old.handler) (new.clock, served.run.handler) }
 {}

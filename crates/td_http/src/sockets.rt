@@ -1,8 +1,7 @@
 //! Connections that come to a listening socket.
 ghost use Rattle.std.specs.Prelude.{map};
-ghost use Rattle.td_http.specs.Connections.{ServesSockets};
+ghost use Rattle.td_http.specs.Connections.{ServesSockets, desk_server};
 ghost use Rattle.td_http.specs.Private.{IsPrivateOver};
-ghost use Rattle.td_http.specs.Serving.{IsHandledBy, IsHeadHandledBy};
 
 use crate::connections::{Connections, serve_connections};
 use crate::sides::{ReplySide, RequestSide, sides};
@@ -117,9 +116,7 @@ pub fn serve_on<C: Clock, D: Desk>(
     clock: &mut C,
     service: &mut Service<D>,
 ) -> io::Result<()>
-    ensures { (served : ServesSockets C.ticks
-        (IsHandledBy D.seen) IsHeadHandledBy
-        clock.old service.old clock.new service.new connections result)
+    ensures { (served : ServesSockets (desk_server C.ticks D.seen) clock.old service.old clock.new service.new connections result)
         × IsPrivateOver D.seen service.old service.new
         (map (λ connection. connection.exchanges) served.all_served) }
 {

@@ -8,6 +8,7 @@ use Rattle.td_http.specs.Serving.{desk_of, IsHandledBy, IsHeadHandledBy, IsPriva
 use Rattle.td_http.proofs.Streamed.{stream_clean}
 use Rattle.td_desk.specs.View.{DeskView}
 use Rattle.td_jobs.specs.Desks.{IsReady}
+use Rattle.td_jobs.specs.Jobs.{state_of}
 use Rattle.td_jobs.specs.Piped.{IsPiped}
 
 -- a stream that was served at a service of a desk
@@ -16,7 +17,7 @@ pub piped_at : {D R W C : Type 0} (view : DeskView D) (remaining : R → Option 
     → (served : Serves remaining contents ticks (IsHandledBy view) IsHeadHandledBy
     (record { reader = reader; writer = writer; clock = clock; handler = old }) (record { reader = reader_left; writer = writer_left; clock = clock_left; handler = new }) end)
     → IsPrivate view old new served.run.exchanges → IsReady view (desk_of old)
-    → IsPiped view (desk_of old) (desk_of new) remaining contents ticks reader reader_left writer writer_left clock clock_left end
+    → IsPiped view remaining contents ticks (state_of (desk_of old) reader writer clock) (state_of (desk_of new) reader_left writer_left clock_left) end
 piped_at view remaining contents ticks reader reader_left writer writer_left clock clock_left old new end served private ready =
     let run = served.run in
     let was = stream_clean ticks view clock clock_left old run.handler new run.exchanges run.rest run.ending served.chain served.ending in

@@ -3,9 +3,9 @@ use Rattle.std.proofs.Common.{◌≡◌, ℕ, ◌<◌, ℤ, List, length, map, R
 use Rattle.std.specs.Prelude.{MatchResult}
 use Rattle.std.specs.declared.io.Error.{Error}
 use Rattle.td_http.specs.declared.service.Service.{Service}
-use Rattle.td_http.specs.Serving.{desk_of, IsHandledBy, IsHeadHandledBy}
+use Rattle.td_http.specs.Serving.{desk_of}
 use Rattle.td_http.specs.Private.{IsPrivateOver}
-use Rattle.td_http.specs.Connections.{Between, Connection, IsRefused, ServesConnections}
+use Rattle.td_http.specs.Connections.{Between, Connection, IsRefused, ServesConnections, desk_server}
 use Rattle.td_http.proofs.Private.{connections_clean}
 use Rattle.td_desk.specs.View.{DeskView}
 use Rattle.td_machine.specs.Machine.{Around}
@@ -23,14 +23,15 @@ last_clean {D = D} is_clean refuses all_served last new count (Err why) ended cl
 -- connections that were served at a service of a desk
 pub has_served : {D M L Reads Writes C : Type 0} (view : DeskView D) (around : Around M L Reads Writes) (ticks : C → ℤ → C → Type 0) (count : ℕ)
     (came gone : L) (clock clock_left : C) (old new : Service D) (answer : Result (Unit {0}) Error)
-    → (served : ServesConnections around.remaining around.contents around.gives around.takes around.refuses ticks (IsHandledBy view) IsHeadHandledBy
+    → (served : ServesConnections around.connections (desk_server ticks view)
     (record { source = came; clock = clock; handler = old }) (record { source = gone; clock = clock_left; handler = new }) count answer)
     → IsPrivateOver view old new (map (λ connection. connection.exchanges) served.all_served) → IsReady view (desk_of old)
-    → HasServed view (desk_of old) (desk_of new) around ticks count came gone clock clock_left answer
+    → HasServed view around ticks count (record { source = came; clock = clock; desk = desk_of old })
+    (record { source = gone; clock = clock_left; desk = desk_of new }) answer
 has_served view around ticks count came gone clock clock_left old new answer served private ready =
-    let was : view.is_clean (desk_of new) → view.is_clean (desk_of old) = (λ clean. connections_clean around.remaining around.contents around.gives around.takes ticks view
+    let was : view.is_clean (desk_of new) → view.is_clean (desk_of old) = (λ clean. connections_clean around.connections ticks view
     served.all_served (record { source = came; clock = clock; handler = old }) served.last served.were_served
-    (last_clean view.is_clean around.refuses served.all_served served.last (record { source = gone; clock = clock_left; handler = new }) count answer served.ended clean)) in
+    (last_clean view.is_clean around.connections.refuses served.all_served served.last (record { source = gone; clock = clock_left; handler = new }) count answer served.ended clean)) in
     record {
       service = old;
       service_left = new;

@@ -12,6 +12,7 @@ use Rattle.td_batch.specs.Runs.{IsRunOf}
 use Rattle.td_words.specs.declared.words.BatchKind.{BatchKind}
 use Rattle.td_words.specs.declared.words.BatchKind.TheVariants as kind
 use Rattle.td_jobs.specs.Desks.{IsMomentBy}
+use Rattle.td_jobs.specs.Jobs.{DeskAndMachine}
 use Rattle.td_jobs.specs.declared.rows.Rows.{Rows}
 use Rattle.td_jobs.specs.declared.rows.Rows.TheVariants as rows
 
@@ -39,8 +40,8 @@ commands_of (rows.Acts all) = all.items
 
 -- Rows were done, all at one moment, at a desk that is seen so: the moment that is given, or else the answer of the machine's clock,
 -- which is asked once.
-pub record HasDoneRows {D M : Type 0} (view : DeskView D) (opened left : D) (ticks : M → ℤ → M → Type 0) (at : Option ℤ)
-    (which : BatchKind) (commands : List Command) (machine machine_left : M) (r : BatchRun) : Type 0 where
+pub record HasDoneRows {D M : Type 0} (view : DeskView D) (ticks : M → ℤ → M → Type 0) (at : Option ℤ)
+    (which : BatchKind) (commands : List Command) (old new : DeskAndMachine D M) (r : BatchRun) : Type 0 where
   pub moment : ℤ
-  pub asked : IsMomentBy ticks at machine moment machine_left
-  pub ran : IsRunOf view (result_line which) (header_of which) moment commands r opened left
+  pub asked : IsMomentBy ticks at old.machine moment new.machine
+  pub ran : IsRunOf view (result_line which) (header_of which) moment commands r old.desk new.desk

@@ -1,6 +1,6 @@
 //! No request at all: whether there is a desk.
 ghost use Rattle.std.specs.Prelude.{◌≡◌};
-ghost use Rattle.td_jobs.specs.Jobs.{IsUntouched};
+ghost use Rattle.td_jobs.specs.Jobs.{IsStillBeside};
 
 use crate::job::DeskJob;
 use std::alloc::Global;
@@ -16,8 +16,7 @@ pub struct Checking;
 impl DeskJob for Checking {
     type End = ();
 
-    ghost does = { λ D R W M L Reads Writes view opened left remaining contents around at job reader reader_left writer writer_left machine machine_left end.
-        IsUntouched reader reader_left writer writer_left machine machine_left × (left ≡ opened) };
+    ghost does = { λ D R W M L Reads Writes view known at job old new end. IsStillBeside old new × (new.desk ≡ old.desk) };
 
     fn on<D: Desk, M: Machine, R: Read, W: Write>(
         self,

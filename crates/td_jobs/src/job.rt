@@ -2,7 +2,7 @@
 ghost use Rattle.std.specs.Prelude.{◌≡◌, MatchResult};
 ghost use Rattle.td_desk.specs.declared.plain.PlainDesk.{PlainDesk};
 ghost use Rattle.td_jobs.specs.Desks.{BeginsEmpty, IsReady, in_memory};
-ghost use Rattle.td_jobs.specs.Jobs.{Doing, IsUntouched};
+ghost use Rattle.td_jobs.specs.Jobs.{Doing, IsUntouched, job_known, state_of};
 
 use std::alloc::Global;
 use std::io::{Read, Write};
@@ -31,8 +31,8 @@ pub trait DeskJob: Drop {
         out: &mut Counted<W>,
     ) -> (Self::End, D)
         ensures { IsReady D.seen desk
-            → does _ _ _ _ _ _ _ D.seen desk result.1 R.remaining W.contents ⟦<M as Surroundings>⟧.around at self
-            input.old input.new out.old out.new machine.old machine.new result.0 };
+            → does _ _ _ _ _ _ _ D.seen (job_known R.remaining W.contents ⟦<M as Surroundings>⟧.around) at self
+            (state_of desk input.old out.old machine.old) (state_of result.1 input.new out.new machine.new) result.0 };
 }
 
 /// Does a job at a new desk of the office in memory, which is gone after it, and answers how the job ended. An error: there was no
@@ -47,8 +47,8 @@ pub fn in_memory<M: Machine, R: Read, W: Write, J: DeskJob>(
 ) -> Result<J::End, J>
     ensures { MatchResult result
         (λ end. (opened left : PlainDesk) × BeginsEmpty office.country opened
-        × J.does _ _ _ _ _ _ _ in_memory opened left R.remaining W.contents ⟦<M as Surroundings>⟧.around office.at job
-        input.old input.new out.old out.new machine.old machine.new end)
+        × J.does _ _ _ _ _ _ _ in_memory (job_known R.remaining W.contents ⟦<M as Surroundings>⟧.around) office.at job
+        (state_of opened input.old out.old machine.old) (state_of left input.new out.new machine.new) end)
         (λ undone. (undone ≡ job) × IsUntouched input.old input.new out.old out.new machine.old machine.new) }
 {
     let Ok(desk) = PlainDesk::new(alloc, office.country) else {

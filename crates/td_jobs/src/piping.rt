@@ -1,6 +1,7 @@
 //! One stream of requests, from the input to the output.
 ghost use Rattle.td_http.specs.Serving.{desk_of};
 ghost use Rattle.td_jobs.specs.Desks.{IsReady};
+ghost use Rattle.td_jobs.specs.Jobs.{job_known, state_of};
 ghost use Rattle.td_jobs.specs.Piped.{IsPipedAt};
 
 use crate::job::DeskJob;
@@ -18,8 +19,7 @@ pub struct Piping;
 impl DeskJob for Piping {
     type End = StreamEnd;
 
-    ghost does = { λ D R W M L Reads Writes view opened left remaining contents around at job reader reader_left writer writer_left machine machine_left end.
-        IsPipedAt view opened left remaining contents around.ticks at reader reader_left writer writer_left machine machine_left end };
+    ghost does = { λ D R W M L Reads Writes view known at job old new end. IsPipedAt view known at old new end };
 
     fn on<D: Desk, M: Machine, R: Read, W: Write>(
         self,
@@ -46,8 +46,9 @@ fn pipe<D: Desk, M: Machine, R: Read, W: Write>(
     out: &mut Counted<W>,
 ) -> StreamEnd
     ensures { IsReady D.seen (desk_of service.old)
-        → IsPipedAt D.seen (desk_of service.old) (desk_of service.new) R.remaining W.contents ⟦<M as Surroundings>⟧.around.ticks at
-        input.old input.new out.old out.new machine.old machine.new result }
+        → IsPipedAt D.seen (job_known R.remaining W.contents ⟦<M as Surroundings>⟧.around) at
+        (state_of (desk_of service.old) input.old out.old machine.old)
+        (state_of (desk_of service.new) input.new out.new machine.new) result }
 {
     match at {
         Some(at) => serve_stream(alloc, input, out, &mut FixedClock { at }, service),

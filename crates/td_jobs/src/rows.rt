@@ -4,6 +4,7 @@ ghost use Rattle.td_batch_rows.specs.Rows.{Tells};
 ghost use Rattle.td_batch.specs.Runs.{IsRunOf};
 ghost use Rattle.td_jobs.specs.Batched.{HasDoneRows, commands_of, header_of, kind_of, result_line, batch_rows_in};
 ghost use Rattle.td_jobs.specs.Desks.{IsMomentBy};
+ghost use Rattle.td_jobs.specs.Jobs.{with_machine};
 
 use crate::job::DeskJob;
 use std::alloc::Global;
@@ -65,9 +66,10 @@ fn moment_by<M: Machine>(machine: &mut M, at: Option<i64>) -> i64
 impl DeskJob for Rows {
     type End = BatchRun;
 
-    ghost does = { λ D R W M L Reads Writes view opened left remaining contents around at job reader reader_left writer writer_left machine machine_left run.
-        (reader_left ≡ reader) × (writer_left ≡ writer)
-        × HasDoneRows view opened left around.ticks at (kind_of job) (commands_of job) machine machine_left run };
+    ghost does = { λ D R W M L Reads Writes view known at job old new run.
+        (new.input ≡ old.input) × (new.output ≡ old.output)
+        × HasDoneRows view known.around.ticks at (kind_of job) (commands_of job)
+        (with_machine old.desk old.machine) (with_machine new.desk new.machine) run };
 
     fn on<D: Desk, M: Machine, R: Read, W: Write>(
         self,

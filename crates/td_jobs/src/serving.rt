@@ -2,7 +2,7 @@
 ghost use Rattle.std.specs.Prelude.{◌≡◌};
 ghost use Rattle.td_http.specs.Serving.{desk_of};
 ghost use Rattle.td_jobs.specs.Desks.{IsReady};
-ghost use Rattle.td_jobs.specs.Listening.{AreLinesOf, HasServedAt, ServesAs, ServesThere};
+ghost use Rattle.td_jobs.specs.Listening.{AreLinesOf, HasServedAt, ServesAs, ServesThere, server_of, without_input};
 
 use crate::job::DeskJob;
 use std::alloc::{AllocError, Global};
@@ -53,8 +53,8 @@ impl PrintedLines {
 impl DeskJob for Listening {
     type End = ServingEnd;
 
-    ghost does = { λ D R W M L Reads Writes view opened left remaining contents around at job reader reader_left writer writer_left machine machine_left end.
-        (reader_left ≡ reader) × ServesAs view opened left contents around at job writer writer_left end machine machine_left };
+    ghost does = { λ D R W M L Reads Writes view known at job old new end.
+        (new.input ≡ old.input) × ServesAs view known.contents known.around at job end (without_input old) (without_input new) };
 
     fn on<D: Desk, M: Machine, R: Read, W: Write>(
         self,
@@ -81,8 +81,8 @@ fn serve_printing<D: Desk, M: Machine, W: Write>(
     out: &mut Counted<W>,
 ) -> ServingEnd
     ensures { IsReady D.seen (desk_of service.old)
-        → ServesAs D.seen (desk_of service.old) (desk_of service.new) W.contents ⟦<M as Surroundings>⟧.around at listening
-        out.old out.new result machine.old machine.new }
+        → ServesAs D.seen W.contents ⟦<M as Surroundings>⟧.around at listening result
+        (server_of (desk_of service.old) out.old machine.old) (server_of (desk_of service.new) out.new machine.new) }
 {
     match PrintedLines::of(alloc, listening) {
         Ok(lines) => listen(alloc, listening, &lines, machine, at, service, out),
@@ -101,8 +101,8 @@ fn listen<D: Desk, M: Machine, W: Write>(
     out: &mut Counted<W>,
 ) -> ServingEnd
     ensures { IsReady D.seen (desk_of service.old) → AreLinesOf listening lines.now
-        → ServesAs D.seen (desk_of service.old) (desk_of service.new) W.contents ⟦<M as Surroundings>⟧.around at listening
-        out.old out.new result machine.old machine.new }
+        → ServesAs D.seen W.contents ⟦<M as Surroundings>⟧.around at listening result
+        (server_of (desk_of service.old) out.old machine.old) (server_of (desk_of service.new) out.new machine.new) }
 {
     let Ok(mut incoming) = machine.listen(alloc, listening.port, listening.idle) else {
         return ServingEnd::Socket;
@@ -133,8 +133,9 @@ fn serve_there<D: Desk, M: Machine, W: Write>(
     out: &mut Counted<W>,
 ) -> ServingEnd
     ensures { IsReady D.seen (desk_of service.old) → AreLinesOf listening lines.now
-        → ServesThere D.seen (desk_of service.old) (desk_of service.new) W.contents ⟦<M as Surroundings>⟧.around at listening
-        out.old out.new result incoming.old incoming.new machine.old machine.new }
+        → ServesThere D.seen W.contents ⟦<M as Surroundings>⟧.around at listening result
+        (record { serving = record { source = incoming.old; clock = machine.old; desk = desk_of service.old }; output = out.old })
+        (record { serving = record { source = incoming.new; clock = machine.new; desk = desk_of service.new }; output = out.new }) }
 {
     if !write_whole(out, lines.first.as_bytes()) {
         return ServingEnd::Write;
@@ -160,8 +161,9 @@ fn serve_by<D: Desk, M: Machine>(
     service: &mut Service<D>,
 ) -> io::Result<()>
     ensures { IsReady D.seen (desk_of service.old)
-        → HasServedAt D.seen (desk_of service.old) (desk_of service.new) ⟦<M as Surroundings>⟧.around at connections
-        incoming.old incoming.new machine.old machine.new result }
+        → HasServedAt D.seen ⟦<M as Surroundings>⟧.around at connections
+        (record { source = incoming.old; clock = machine.old; desk = desk_of service.old })
+        (record { source = incoming.new; clock = machine.new; desk = desk_of service.new }) result }
 {
     match at {
         Some(at) => {

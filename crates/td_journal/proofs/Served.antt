@@ -1,13 +1,13 @@
 -- Connections at a desk that keeps a journal.
-use Rattle.std.proofs.Common.{◌≡◌, ℕ, ◌<◌, ℤ, List, [], ◌∷◌, length, map, Option, Result, Ok, Err, refl, sym, ap, subst}
+use Rattle.std.proofs.Common.{◌≡◌, ℕ, ◌<◌, ℤ, List, [], ◌∷◌, length, map, Result, Ok, Err, refl, sym, ap, subst}
 use Rattle.std.specs.Prelude.{MatchResult}
 use Rattle.std.specs.declared.io.Error.{Error}
 use Rattle.http_wire.specs.Stream.{Exchange}
 use Rattle.sqlite_disk.specs.declared.Disk.{Ghosts}
 use Rattle.td_desk.specs.Content.{IsSound}
 use Rattle.td_desk.specs.View.{DeskView}
-use Rattle.td_http.specs.Connections.{Between, Connection, IsRefused, IsServedConnection, ServedConnections}
-use Rattle.td_http.specs.Serving.{IsHandledBy, IsHeadHandledBy, desk_of}
+use Rattle.td_http.specs.Connections.{Between, Connection, IsRefused, IsServedConnection, KnownConnections, ServedConnections, desk_server}
+use Rattle.td_http.specs.Serving.{desk_of}
 use Rattle.td_http.specs.declared.service.Service.{Service}
 use Rattle.td_http.proofs.Private.{connections_clean}
 use Rattle.td_http.proofs.Streamed.{ending_stays}
@@ -17,8 +17,7 @@ use Rattle.td_journal.specs.declared.desk.JournaledDesk.{JournaledDesk}
 use Rattle.td_journal.proofs.Growing.{grown_on, nothing_grown}
 use Rattle.td_journal.proofs.Streamed.{chain_grown, chain_live}
 
-module _ {D F R W L C : Type 0} (g : Ghosts F) (view : DeskView D) (remaining : R → Option (List ℕ)) (contents : W → Option (List ℕ))
-    (gives takes : L → R → W → L → Type 0) (ticks : C → ℤ → C → Type 0) where
+module _ {D F R W L C : Type 0} (g : Ghosts F) (view : DeskView D) (known : KnownConnections L R W) (ticks : C → ℤ → C → Type 0) where
   abbrev State : Type 0
   State = Between L C (Service (JournaledDesk D F g))
 
@@ -26,13 +25,13 @@ module _ {D F R W L C : Type 0} (g : Ghosts F) (view : DeskView D) (remaining : 
   desk b = desk_of b.handler
 
   abbrev Served : State → List (Connection R W) → State → Type 0
-  Served = ServedConnections remaining contents gives takes ticks (IsHandledBy (journaled view)) IsHeadHandledBy
+  Served = ServedConnections known (desk_server ticks (journaled view))
 
   abbrev IsEnd : JournaledDesk D F g → Type 0
   IsEnd d = view.is_clean d.desk × (journaled view).is_live d
 
   module _ (connection : Connection R W) (old new : State)
-      (served : IsServedConnection remaining contents gives takes ticks (IsHandledBy (journaled view)) IsHeadHandledBy old connection new) where
+      (served : IsServedConnection known (desk_server ticks (journaled view)) old connection new) where
     stays : desk new ≡ desk_of served.served.run.handler
     stays = ending_stays served.served.run.handler new.handler served.served.run.rest served.served.run.ending served.served.ending
 
@@ -57,7 +56,7 @@ module _ {D F R W L C : Type 0} (g : Ghosts F) (view : DeskView D) (remaining : 
         )
 
   clean_back : (all_served : List (Connection R W)) (old new : State) → Served old all_served new → view.is_clean (desk new).desk → view.is_clean (desk old).desk
-  clean_back = connections_clean remaining contents gives takes ticks (journaled view)
+  clean_back = connections_clean known ticks (journaled view)
 
   live_back : (all_served : List (Connection R W)) (old new : State) → Served old all_served new → IsEnd (desk new) → IsEnd (desk old)
   live_back [] old new were is = subst (λ (b : State). IsEnd (desk b)) (sym were) is
@@ -76,15 +75,15 @@ module _ {D F R W L C : Type 0} (g : Ghosts F) (view : DeskView D) (remaining : 
       grown_on view (answered 0 connection.exchanges) _ (desk old) (desk were.0) (desk new) one.0 (connections_grown all_served were.0 new were.2 is one.1)
 
   -- an accept that failed leaves the desk
-  same_end : (refuses : L → Error → L → Type 0) (all_served : List (Connection R W)) (last new : State) (count : ℕ) (answer : Result (Unit {0}) Error)
-      → MatchResult answer (λ _. (length all_served ≡ count) × (new ≡ last)) (λ why. (length all_served < count) × IsRefused refuses last why new)
+  same_end : (all_served : List (Connection R W)) (last new : State) (count : ℕ) (answer : Result (Unit {0}) Error)
+      → MatchResult answer (λ _. (length all_served ≡ count) × (new ≡ last)) (λ why. (length all_served < count) × IsRefused known.refuses last why new)
       → desk new ≡ desk last
-  same_end refuses all_served last new count (Ok done) ended = ap desk ended.1
-  same_end refuses all_served last new count (Err why) ended = ap desk_of ended.1.handler
+  same_end all_served last new count (Ok done) ended = ap desk ended.1
+  same_end all_served last new count (Err why) ended = ap desk_of ended.1.handler
 
-  pub serving_grown : (refuses : L → Error → L → Type 0) → ServingIsJournaled g view remaining contents gives takes refuses ticks
-  serving_grown refuses old new count answer served clean live sound =
-      let same = same_end refuses served.all_served served.last new count answer served.ended in
+  pub serving_grown : ServingIsJournaled g view known ticks
+  serving_grown old new count answer served clean live sound =
+      let same = same_end served.all_served served.last new count answer served.ended in
       let is : IsEnd (desk served.last) = subst IsEnd same (clean, live) in
       subst (λ (d : JournaledDesk D F g). HasGrown view (answered_over (map (λ connection. connection.exchanges) served.all_served)) (desk old) d) (sym same)
       (connections_grown served.all_served old served.last served.were_served is sound)

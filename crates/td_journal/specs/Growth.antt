@@ -15,8 +15,8 @@ use Rattle.td_desk.specs.declared.running.Outcome.TheVariants.{Failed, Said}
 use Rattle.td_desk.specs.View.{DeskView}
 use Rattle.td_desk.specs.Weighing.{Carries}
 use Rattle.td_fields.specs.declared.fault.WebFault.{WebFault}
-use Rattle.td_http.specs.Connections.{Between, ServesConnections}
-use Rattle.td_http.specs.Serving.{IsHandledBy, IsHeadHandledBy, command_in, desk_of}
+use Rattle.td_http.specs.Connections.{Between, KnownConnections, ServesConnections, desk_server}
+use Rattle.td_http.specs.Serving.{IsHandledBy, command_in, desk_of}
 use Rattle.td_http.specs.declared.service.Service.{Service}
 use Rattle.td_journal.specs.Journal.{IsDurable, IsTight, next_number, text_of}
 use Rattle.td_journal.specs.Journaled.{journaled, rows_in, written}
@@ -64,11 +64,10 @@ answered_over [] = []
 answered_over (es ∷ streams) = answered 0 es ++ answered_over streams
 
 -- Connections that were served one after the other, at such a service.
-abbrev pub ServingIsJournaled : {D F R W L C : Type 0} (g : Ghosts F) → DeskView D → (R → Option (List ℕ)) → (W → Option (List ℕ))
-    → (L → R → W → L → Type 0) → (L → R → W → L → Type 0) → (L → Error → L → Type 0) → (C → ℤ → C → Type 0) → Type 0
-ServingIsJournaled {D} {F} {L = L} {C = C} g view remaining contents gives takes refuses ticks =
+abbrev pub ServingIsJournaled : {D F R W L C : Type 0} (g : Ghosts F) → DeskView D → KnownConnections L R W → (C → ℤ → C → Type 0) → Type 0
+ServingIsJournaled {D} {F} {L = L} {C = C} g view known ticks =
     (old new : Between L C (Service (JournaledDesk D F g))) (count : ℕ) (answer : Result Unit Error)
-    → (served : ServesConnections remaining contents gives takes refuses ticks (IsHandledBy (journaled view)) IsHeadHandledBy old new count answer)
+    → (served : ServesConnections known (desk_server ticks (journaled view)) old new count answer)
     → view.is_clean (desk_of new.handler).desk → (journaled view).is_live (desk_of new.handler) → IsSound (view.content (desk_of old.handler).desk)
     → HasGrown view (answered_over (map (λ connection. connection.exchanges) served.all_served)) (desk_of old.handler) (desk_of new.handler)
 

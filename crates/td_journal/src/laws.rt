@@ -1,4 +1,5 @@
 //! What a journal has of the commands that were answered while it was kept: the contracts are laws, and the calls do nothing.
+ghost use Rattle.td_http.specs.Connections.{connections_by};
 ghost use Rattle.td_journal.specs.Growth.{BatchIsJournaled, ServingIsJournaled, StreamIsJournaled};
 ghost use Rattle.td_journal.specs.Parts.{PartTellsTheSame};
 
@@ -15,7 +16,7 @@ pub fn a_stream_is_journaled<D: Desk, F: Disk, C: Clock>()
 
 /// The same of connections that were served one after the other.
 pub fn a_serving_is_journaled<D: Desk, F: Disk, L: Connections, C: Clock>()
-    ensures { ServingIsJournaled F.Disk D.seen L.Reader.remaining L.Writer.contents L.gives L.takes L.refuses C.ticks }
+    ensures { ServingIsJournaled F.Disk D.seen (connections_by L.Reader.remaining L.Writer.contents L.gives L.takes L.refuses) C.ticks }
 {}
 
 /// The same of the rows of a batch.

@@ -28,16 +28,16 @@ followed_ready view remaining opened begun reader read count all ready = λ clea
 
 pub standby_goes_on : {D R M L Reads Writes C : Type 0} (view : DeskView D) (remaining : R → Option (List ℕ)) (around : Around M L Reads Writes) (ticks : C → ℤ → C → Type 0)
     → StandbyGoesOn view remaining around ticks
-standby_goes_on view remaining around ticks opened begun left reader read count connections came gone clock clock_left answer is books tied =
-    let told = is.followed.followed.done in
-    let clean = is.served.clean is.clean in
-    let live = told.live clean is.live in
-    let (c, run, same) = told.tried.private clean is.live is.sound books tied in
-    let at_begun = subst (IsRun (view.content opened).country books (map stamped_of is.followed.rows) (said_to told.said)) (sym (same live)) run in
-    let later : ℕ → Book = λ H. machine_book H (books H) (heard (view.content opened).country H (map stamped_of is.followed.rows) (said_to told.said)) in
-    let served = is.served.private is.clean later at_begun.tied in (
+standby_goes_on view remaining around ticks opened reader read count connections old new answer followed serving was_live sound is_clean books tied =
+    let told = followed.followed.done in
+    let clean = serving.clean is_clean in
+    let live = told.live clean was_live in
+    let (c, run, same) = told.tried.private clean was_live sound books tied in
+    let at_begun = subst (IsRun (view.content opened).country books (map stamped_of followed.rows) (said_to told.said)) (sym (same live)) run in
+    let later : ℕ → Book = λ H. machine_book H (books H) (heard (view.content opened).country H (map stamped_of followed.rows) (said_to told.said)) in
+    let served = serving.private is_clean later at_begun.tied in (
       at_begun,
       subst
-          (λ (country : List ℕ). (e : Content) × IsServedOver country later (map (λ connection. connection.exchanges) is.served.served.all_served) e × (view.is_live left → view.content left ≡ e))
+          (λ (country : List ℕ). (e : Content) × IsServedOver country later (map (λ connection. connection.exchanges) serving.served.all_served) e × (view.is_live new.desk → view.content new.desk ≡ e))
           at_begun.country_stays served,
     )

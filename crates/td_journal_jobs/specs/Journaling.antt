@@ -18,16 +18,22 @@ pub record BeginsJournal {D F : Type 0} {g : Ghosts F} (view : DeskView D) (open
   pub durable : IsDurable begun.journal
   pub none : waiting begun ≡ None
 
-module _ {D F End : Type 0} (g : Ghosts F) (view : DeskView D) (opened left : D) (file : F)
-    (did : (E : Type 0) → DeskView E → E → E → End → Type 0) (untouched : Type 0) (kept : F) where
+-- a desk and the file of its journal, handed in or handed back
+pub record DeskAndFile (D F : Type 0) : Type 0 where
+  pub desk : D
+  pub file : F
+
+module _ {D F End : Type 0} (g : Ghosts F) (view : DeskView D) (did : (E : Type 0) → DeskView E → E → E → End → Type 0) (untouched : Type 0)
+    (old new : DeskAndFile D F) where
   -- The journal in the file was begun for the desk as it was opened, and the job was done at the desk around it; the desk and the file
   -- are handed back as that one left them. Or the journal wasn't begun, for this fault: then what the job works on is untouched.
   abbrev pub HasJournaledTo : Result End StartFault → Type 0
   HasJournaledTo (Ok end) =
-      (begun : JournaledDesk D F g) × (stopped : JournaledDesk D F g) × BeginsJournal view opened file begun
-      × did (JournaledDesk D F g) (journaled view) begun stopped end × (left ≡ stopped.desk) × (kept ≡ stopped.journal.file)
-  HasJournaledTo (Err why) = untouched × IsStartRefused view g opened file why left kept
+      (begun : JournaledDesk D F g) × (stopped : JournaledDesk D F g) × BeginsJournal view old.desk old.file begun
+      × did (JournaledDesk D F g) (journaled view) begun stopped end × (new.desk ≡ stopped.desk) × (new.file ≡ stopped.journal.file)
+  HasJournaledTo (Err why) = untouched × IsStartRefused view g old.desk old.file why new.desk new.file
 
 abbrev pub HasJournaled : {D F End : Type 0} (g : Ghosts F) → DeskView D → D → D → F → ((E : Type 0) → DeskView E → E → E → End → Type 0) → Type 0
     → Journaled End F → Type 0
-HasJournaled g view opened left file did untouched ended = HasJournaledTo g view opened left file did untouched ended.file ended.end
+HasJournaled g view opened left file did untouched ended =
+    HasJournaledTo g view did untouched (record { desk = opened; file = file }) (record { desk = left; file = ended.file }) ended.end

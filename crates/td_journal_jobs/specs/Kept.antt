@@ -1,7 +1,6 @@
 -- What a journal has after a job that was done at a desk which keeps it.
 use Rattle.std.specs.Prelude.{ℕ, ℤ, List, map, zip, Option, Result}
 use Rattle.std.specs.declared.io.Error.{Error}
-use Rattle.counted_io.specs.declared.counted.Counted.{Counted}
 use Rattle.http_wire.specs.declared.stream.StreamEnd.{StreamEnd}
 use Rattle.sqlite_disk.specs.declared.Disk.{Ghosts}
 use Rattle.td_batch.specs.Runs.{IsBatchDone, outcomes_of, tried}
@@ -10,7 +9,8 @@ use Rattle.td_commands.specs.declared.command.Command.{Command}
 use Rattle.td_desk.specs.Content.{IsSound}
 use Rattle.td_desk.specs.View.{DeskView}
 use Rattle.td_jobs.specs.Batched.{HasDoneRows, header_of, result_line}
-use Rattle.td_jobs.specs.Listening.{HasServed}
+use Rattle.td_jobs.specs.Jobs.{DeskAndMachine, JobState}
+use Rattle.td_jobs.specs.Listening.{HasServed, ServingState}
 use Rattle.td_jobs.specs.Piped.{IsPiped}
 use Rattle.td_journal.specs.Growth.{HasGrown, answered, answered_over, answered_rows}
 use Rattle.td_journal.specs.Journaled.{journaled}
@@ -27,23 +27,22 @@ pub record EndsWell {D F : Type 0} {g : Ghosts F} (view : DeskView D) (begun sto
 -- The journal grew by the rows of the accepted changes among a stream's answered requests.
 abbrev pub StreamIsKept : {D F R W C : Type 0} (g : Ghosts F) → DeskView D → (R → Option (List ℕ)) → (W → Option (List ℕ)) → (C → ℤ → C → Type 0) → Type 0
 StreamIsKept {D} {F} {R} {W} {C} g view remaining contents ticks =
-    (begun stopped : JournaledDesk D F g) (reader reader_left : Counted R) (writer writer_left : Counted W) (clock clock_left : C) (end : StreamEnd)
-    → (piped : IsPiped (journaled view) begun stopped remaining contents ticks reader reader_left writer writer_left clock clock_left end)
-    → EndsWell view begun stopped → HasGrown view (answered 0 piped.served.run.exchanges) begun stopped
+    (old new : JobState (JournaledDesk D F g) R W C) (end : StreamEnd) → (piped : IsPiped (journaled view) remaining contents ticks old new end)
+    → EndsWell view old.desk new.desk → HasGrown view (answered 0 piped.served.run.exchanges) old.desk new.desk
 
 -- By those among the answered requests of all connections, in the order in which they were served.
 abbrev pub ServingIsKept : {D F M L Reads Writes C : Type 0} (g : Ghosts F) → DeskView D → Around M L Reads Writes → (C → ℤ → C → Type 0) → Type 0
 ServingIsKept {D} {F} {L = L} {C = C} g view around ticks =
-    (begun stopped : JournaledDesk D F g) (connections : ℕ) (came gone : L) (clock clock_left : C) (answer : Result Unit Error)
-    → (served : HasServed (journaled view) begun stopped around ticks connections came gone clock clock_left answer)
-    → EndsWell view begun stopped
-    → HasGrown view (answered_over (map (λ connection. connection.exchanges) served.served.all_served)) begun stopped
+    (connections : ℕ) (old new : ServingState L C (JournaledDesk D F g)) (answer : Result Unit Error)
+    → (served : HasServed (journaled view) around ticks connections old new answer)
+    → EndsWell view old.desk new.desk
+    → HasGrown view (answered_over (map (λ connection. connection.exchanges) served.served.all_served)) old.desk new.desk
 
 -- By those among the rows of a batch that were answered, at the batch's moment.
 abbrev pub BatchIsKept : {D F M : Type 0} (g : Ghosts F) → DeskView D → (M → ℤ → M → Type 0) → Type 0
 BatchIsKept {D} {F} {M} g view ticks =
-    (begun stopped : JournaledDesk D F g) (at : Option ℤ) (which : BatchKind) (commands : List Command) (machine machine_left : M) (r : BatchRun)
-    → (rows : HasDoneRows (journaled view) begun stopped ticks at which commands machine machine_left r)
-    → (done : IsBatchDone (journaled view) (result_line which) (header_of which) rows.moment commands r begun stopped)
-    → EndsWell view begun stopped
-    → HasGrown view (answered_rows rows.moment (zip (tried commands done.said r.stopped) (outcomes_of done.said r.stopped))) begun stopped
+    (at : Option ℤ) (which : BatchKind) (commands : List Command) (old new : DeskAndMachine (JournaledDesk D F g) M) (r : BatchRun)
+    → (rows : HasDoneRows (journaled view) ticks at which commands old new r)
+    → (done : IsBatchDone (journaled view) (result_line which) (header_of which) rows.moment commands r old.desk new.desk)
+    → EndsWell view old.desk new.desk
+    → HasGrown view (answered_rows rows.moment (zip (tried commands done.said r.stopped) (outcomes_of done.said r.stopped))) old.desk new.desk

@@ -9,7 +9,7 @@ use Rattle.td_desk.specs.View.{DeskView}
 use Rattle.td_desk.specs.declared.running.Outcome.{Outcome}
 use Rattle.td_desk.specs.declared.running.Outcome.TheVariants as outcome
 use Rattle.td_http.specs.Private.{IsServedOver}
-use Rattle.td_jobs.specs.Listening.{HasServed}
+use Rattle.td_jobs.specs.Listening.{HasServed, ServingState}
 use Rattle.td_machine.specs.Machine.{Around}
 use Rattle.td_model.specs.Book.{Book}
 use Rattle.td_model.specs.Machine.{machine_book}
@@ -20,27 +20,20 @@ use Rattle.td_replay.specs.Replays.{stamped_of}
 abbrev pub said_to : List Said → List Outcome
 said_to said = map (λ words. outcome.Said words) said
 
--- The rows were followed from sound content, and then connections served; and the desk is clean in the end.
-pub record HasStoodBy {D R M L Reads Writes C : Type 0} (view : DeskView D) (remaining : R → Option (List ℕ)) (around : Around M L Reads Writes)
-    (ticks : C → ℤ → C → Type 0) (opened begun left : D) (reader read : Counted R) (count connections : ℕ) (came gone : L) (clock clock_left : C)
-    (answer : Result Unit Error) : Type 0 where
-  pub followed : FollowsAll view remaining opened reader count begun read
-  pub served : HasServed view begun left around ticks connections came gone clock clock_left answer
-  pub clean : view.is_clean left
-  pub live : view.is_live opened
-  pub sound : IsSound (view.content opened)
-
--- Each holder was told what the holder's own machine says, over the rows and then over all connections, from any books that say what
--- the desk had at first: the serving goes on with the books that the rows ended with.
+-- A desk of sound content followed the rows of a journal, and then served connections; and it is clean in the end. Each holder was told
+-- what the holder's own machine says, over the rows and then over all connections, from any books that say what the desk had at first:
+-- the serving goes on with the books that the rows ended with.
 abbrev pub StandbyGoesOn : {D R M L Reads Writes C : Type 0} → DeskView D → (R → Option (List ℕ)) → Around M L Reads Writes → (C → ℤ → C → Type 0) → Type 0
 StandbyGoesOn {D} {R} {L = L} {C = C} view remaining around ticks =
-    (opened begun left : D) (reader read : Counted R) (count connections : ℕ) (came gone : L) (clock clock_left : C) (answer : Result Unit Error)
-    → (is : HasStoodBy view remaining around ticks opened begun left reader read count connections came gone clock clock_left answer)
+    (opened : D) (reader read : Counted R) (count connections : ℕ) (old new : ServingState L C D) (answer : Result Unit Error)
+    → (followed : FollowsAll view remaining opened reader count old.desk read)
+    → (served : HasServed view around ticks connections old new answer)
+    → view.is_live opened → IsSound (view.content opened) → view.is_clean new.desk
     → (books : ℕ → Book) → IsTied (view.content opened) books
     → let country = (view.content opened).country in
-    let list = map stamped_of is.followed.rows in
-    let outcomes = said_to is.followed.followed.done.said in
-    IsRun country books list outcomes (view.content begun)
+    let list = map stamped_of followed.rows in
+    let outcomes = said_to followed.followed.done.said in
+    IsRun country books list outcomes (view.content old.desk)
     × ((c : Content) × IsServedOver country (λ H. machine_book H (books H) (heard country H list outcomes))
-    (map (λ connection. connection.exchanges) is.served.served.all_served) c
-    × (view.is_live left → view.content left ≡ c))
+    (map (λ connection. connection.exchanges) served.served.all_served) c
+    × (view.is_live new.desk → view.content new.desk ≡ c))

@@ -20,10 +20,9 @@ pub struct Following<J> {
 impl<J: DeskJob> DeskJob for Following<J> {
     type End = Result<J::End, FollowFault>;
 
-    ghost does = { λ D R W M L Reads Writes view opened left remaining contents around at job reader reader_left writer writer_left machine machine_left end.
-        DoesAfter view remaining opened left reader reader_left
-        (λ begun read end. J.does D R W M L Reads Writes view begun left remaining contents around at job.job read reader_left writer writer_left machine machine_left end)
-        ((writer_left ≡ writer) × (machine_left ≡ machine)) end };
+    ghost does = { λ D R W M L Reads Writes view known at job old new end.
+        DoesAfter view known.remaining old new
+        (λ begun end. J.does D R W M L Reads Writes view known at job.job begun new end) end };
 
     fn on<D: Desk, M: Machine, R: Read, W: Write>(
         self,

@@ -1,6 +1,6 @@
 //! A job that is done at a desk which keeps a journal.
 ghost use Rattle.td_jobs.specs.Desks.{IsReady};
-ghost use Rattle.td_jobs.specs.Jobs.{IsUntouched};
+ghost use Rattle.td_jobs.specs.Jobs.{IsStillBeside, at_desk};
 ghost use Rattle.td_journal_jobs.specs.Journaling.{HasJournaled};
 
 use sqlite_disk::Disk;
@@ -32,11 +32,10 @@ pub struct Journaled<End, F> {
 impl<J: DeskJob, F: Disk + Drop> DeskJob for Journaling<J, F> {
     type End = Journaled<J::End, F>;
 
-    ghost does = { λ D R W M L Reads Writes view opened left remaining contents around at job reader reader_left writer writer_left machine machine_left ended.
-        HasJournaled F.Disk view opened left job.file
-        (λ E seen begun stopped end. J.does E R W M L Reads Writes seen begun stopped remaining contents around at job.job
-        reader reader_left writer writer_left machine machine_left end)
-        (IsUntouched reader reader_left writer writer_left machine machine_left) ended };
+    ghost does = { λ D R W M L Reads Writes view known at job old new ended.
+        HasJournaled F.Disk view old.desk new.desk job.file
+        (λ E seen begun stopped end. J.does E R W M L Reads Writes seen known at job.job (at_desk begun old) (at_desk stopped new) end)
+        (IsStillBeside old new) ended };
 
     fn on<D: Desk, M: Machine, R: Read, W: Write>(
         self,

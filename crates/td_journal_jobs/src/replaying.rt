@@ -1,6 +1,6 @@
 //! The rows of a journal, done again at a desk.
 ghost use Rattle.std.specs.Prelude.{◌≡◌, map};
-ghost use Rattle.td_jobs.specs.Jobs.{IsUntouched};
+ghost use Rattle.td_jobs.specs.Jobs.{IsStillBeside};
 ghost use Rattle.td_journal_lines.specs.Rows.{numbered};
 ghost use Rattle.td_replay.specs.Replays.{IsReplayOf};
 
@@ -23,8 +23,8 @@ pub struct Replaying {
 impl DeskJob for Replaying {
     type End = ReplayRun;
 
-    ghost does = { λ D R W M L Reads Writes view opened left remaining contents around at job reader reader_left writer writer_left machine machine_left run.
-        IsUntouched reader reader_left writer writer_left machine machine_left × IsReplayOf view (map numbered job.rows.items) run opened left };
+    ghost does = { λ D R W M L Reads Writes view known at job old new run.
+        IsStillBeside old new × IsReplayOf view (map numbered job.rows.items) run old.desk new.desk };
 
     fn on<D: Desk, M: Machine, R: Read, W: Write>(
         self,

@@ -19,7 +19,7 @@ use Rattle.td_journal_start.specs.Laws.{IsClean}
 use Rattle.td_journal_start.specs.Starts.{IsStartRefused, IsStarted}
 use Rattle.td_journal_start.specs.declared.refused.StartFault.TheVariants.{ForeignRow}
 use Rattle.td_journal_laws.specs.Crashes.{ACrashBetweenIsMadeGood, ACrashIsMadeGood, AreABeginning, ARowFirstIsMadeGood, IsAtRest, IsCarriedAt, IsLeftBy, IsMadeGood, IsRowFirst, IsUncarried, NoCrashBetweenIsForeign, NoCrashIsForeign, rows_for}
-use Rattle.td_journal_laws.specs.Kept.{IsKept, IsKeptAt, IsToBeStarted}
+use Rattle.td_journal_laws.specs.Kept.{IsKept, IsKeptAt, IsToBeStarted, JournalText}
 use Rattle.td_journal_laws.specs.Laws.{AStartIsWhole, NoStartIsForeign}
 use Rattle.td_journal_laws.proofs.Joined.{kept_on, kept_sound}
 use Rattle.td_journal_laws.proofs.Rows.{RowLaws, alike, done_carries, done_to, one_row, row_lines, row_over, unchanged}
@@ -46,8 +46,11 @@ module _ {D F : Type 0} (view : DeskView D) (g : Ghosts F) (begin : Content) (ro
   abbrev T : List ℕ
   T = text_of old.journal
 
+  abbrev found_rows : Rows → List ℕ → Content → JournalText
+  found_rows rs text content = record { begin = begin; first = first; rows = rs; text = text; content = content }
+
   abbrev Finds : Rows → Type 0
-  Finds rs = (text : List ℕ) × (content : Content) × IsToBeStarted view g begin rs first text content desk file
+  Finds rs = (text : List ℕ) × (content : Content) × IsToBeStarted view g (found_rows rs text content) desk file
 
   -- the rows as before, with something behind them in the file that is no row
   as_before : (torn : List ℕ) → view.content desk ≡ C → g.seen file ≡ T ++ torn → HasNoLineFeed torn → Finds rows
@@ -212,10 +215,10 @@ module _ {D F : Type 0} (view : DeskView D) (g : Ghosts F) (begin : Content) (ro
   -- ---- the start
 
   started : AStartIsWhole view g → (rs : Rows) (j : JournaledDesk D F g) → Finds rs → IsStarted view desk file j → IsClean view g j.desk j.journal.file → IsKeptAt view begin rs first j
-  started whole rs j (text, content, found) start clean = (whole begin content rs first text desk file j found start clean).0
+  started whole rs j (text, content, found) start clean = (whole (found_rows rs text content) desk file j found start clean).0
 
   not_refused : NoStartIsForeign view g → (rs : Rows) (number : ℕ) (after : D) (kept : F) → Finds rs → IsClean view g after kept → IsStartRefused view g desk file (ForeignRow number) after kept → ⊥
-  not_refused never rs number after kept (text, content, found) clean refused = never begin content rs first number text desk after file kept found clean refused
+  not_refused never rs number after kept (text, content, found) clean refused = never (found_rows rs text content) number desk after file kept found clean refused
 
 module _ {D F : Type 0} (view : DeskView D) (g : Ghosts F) where
   pub row_first_is_made_good : RowLaws → AStartIsWhole view g → ARowFirstIsMadeGood view g

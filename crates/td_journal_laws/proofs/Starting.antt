@@ -9,7 +9,7 @@ use Rattle.td_journal.specs.Journal.{next_number, text_of}
 use Rattle.td_journal.specs.declared.desk.JournaledDesk.{JournaledDesk}
 use Rattle.td_journal_rows.specs.Rows.{HasNoLineFeed, change_row}
 use Rattle.td_journal_rows.proofs.RowsBack.{line_is, row_front}
-use Rattle.td_journal_start.specs.Laws.{IsClean, IsJournaled, NoRowIsForeign, StartIsWhole}
+use Rattle.td_journal_start.specs.Laws.{IsClean, IsJournaled, JournalRows, NoRowIsForeign, StartIsWhole}
 use Rattle.td_journal_lines.specs.Lines.{IsLine, Numbered}
 use Rattle.td_journal_start.specs.Lines.{AreLines, IsJournal, IsLast, next_after}
 use Rattle.td_journal_start.specs.Starts.{IsStartRefused, IsStarted, IsTaken}
@@ -49,7 +49,20 @@ none_found bytes found last none j = by last j.last_is
     by (Some r) is = absurd (line_feeds r j.line j.before j.torn is.1 (subst HasNoLineFeed bytes_are none))
 
 module _ {D F : Type 0} (view : DeskView D) (g : Ghosts F) (begin content : Content) (rows : List (Row (List ℕ))) (first : ℕ) (text : List ℕ) (desk : D) (file : F)
-    (is : IsToBeStarted view g begin rows first text content desk file) where
+    (is : IsToBeStarted view g (record { begin = begin; first = first; rows = rows; text = text; content = content }) desk file) where
+  -- the rows by their last one, and what all before it make
+  abbrev journal_rows : Content → List (Row (List ℕ)) → Row (List ℕ) → JournalRows
+  journal_rows mid before last = record {
+    begin = begin;
+    first = first;
+    rows = before;
+    before = mid;
+    row = last;
+    after = content;
+    text = text;
+    torn = is.torn;
+  }
+
   -- no row stands in the file
   module _ (none : rows ≡ []) where
     no_text : text ≡ []
@@ -94,7 +107,7 @@ module _ {D F : Type 0} (view : DeskView D) (g : Ghosts F) (begin content : Cont
     parted : (mid : Content) × AreDone body_text begin before mid × IsDone body_text mid last content
     parted = last_done before last begin content (subst (λ (rs : List (Row (List ℕ))). AreDone body_text begin rs content) same is.kept.done)
 
-    journaled_by : (view.content desk ≡ parted.0) ⊎ (view.content desk ≡ content) → IsJournaled view g begin parted.0 content before last first text is.torn desk file
+    journaled_by : (view.content desk ≡ parted.0) ⊎ (view.content desk ≡ content) → IsJournaled view g (journal_rows parted.0 before last) desk file
     journaled_by holds = record {
       sound = is.kept.sound;
       done = parted.1;
@@ -109,7 +122,7 @@ module _ {D F : Type 0} (view : DeskView D) (g : Ghosts F) (begin content : Cont
   abbrev IsWith : Type 0
   IsWith =
       (before : List (Row (List ℕ))) × (last : Row (List ℕ)) × (mid : Content) × (rows ≡ before ++ last ∷ [])
-      × IsJournaled view g begin mid content before last first text is.torn desk file
+      × IsJournaled view g (journal_rows mid before last) desk file
 
   with_last : (rows ≡ []) ⊎ ((before : List (Row (List ℕ))) × (last : Row (List ℕ)) × (rows ≡ before ++ last ∷ []))
       → (view.content desk ≡ content) ⊎ LacksTheLast begin rows (view.content desk) → (rows ≡ []) ⊎ IsWith
@@ -129,7 +142,7 @@ module _ {D F : Type 0} (view : DeskView D) (g : Ghosts F) (begin content : Cont
       by : (rows ≡ []) ⊎ IsWith → IsKeptAt view begin rows first j × (view.content j.desk ≡ content) × (text_of j.journal ≡ text)
       by (inl none) = started_new none j start clean
       by (inr (before, last, mid, same, journal)) =
-          let all = whole begin mid content before last first text is.torn desk file j journal start clean in
+          let all = whole (journal_rows mid before last) desk file j journal start clean in
           let size : length rows ≡ length before + 1 = ap length same ∙ length-append before (last ∷ []) in (
             record {
               sound = is.kept.sound;
@@ -149,11 +162,12 @@ module _ {D F : Type 0} (view : DeskView D) (g : Ghosts F) (begin content : Cont
           let found = refused.2.found clean.1 in
           let no_last : Some refused.0 ≡ None = (found_none none found.0 (Some refused.0) found.1).1 in
           cc
-      by (inr (before, last, mid, same, journal)) = never_so begin mid content before last first text is.torn desk new file left number journal clean refused
+      by (inr (before, last, mid, same, journal)) = never_so (journal_rows mid before last) desk new file left number journal clean refused
 
 pub start_is_whole : {D F : Type 0} (view : DeskView D) (g : Ghosts F) → StartIsWhole view g → AStartIsWhole view g
-start_is_whole view g whole begin content rows first text desk file j is start clean = started view g begin content rows first text desk file is whole j start clean
+start_is_whole view g whole all desk file j is start clean =
+    started view g all.begin all.content all.rows all.first all.text desk file is whole j start clean
 
 pub no_start_is_foreign : {D F : Type 0} (view : DeskView D) (g : Ghosts F) → NoRowIsForeign view g → NoStartIsForeign view g
-no_start_is_foreign view g never_so begin content rows first number text desk new file left is clean refused =
-    not_foreign view g begin content rows first text desk file is never_so number new left clean refused
+no_start_is_foreign view g never_so all number desk new file left is clean refused =
+    not_foreign view g all.begin all.content all.rows all.first all.text desk file is never_so number new left clean refused

@@ -31,12 +31,20 @@ abbrev pub LacksTheLast : Content → List (Row (List ℕ)) → Content → Type
 LacksTheLast begin rows content =
     (before : List (Row (List ℕ))) × (last : Row (List ℕ)) × (rows ≡ before ++ last ∷ []) × AreDone body_text begin before content
 
+-- Rows of a journal: the content that they begin with, the number of the first, their lines, and the content that they make.
+pub record JournalText : Type 0 where
+  pub begin : Content
+  pub first : ℕ
+  pub rows : List (Row (List ℕ))
+  pub text : List ℕ
+  pub content : Content
+
 -- What a start finds: a file with the text of the rows and, behind it, a torn row or nothing; and a desk of the content that the
 -- rows make, or that all of them but the last make.
-pub record IsToBeStarted {D F : Type 0} (view : DeskView D) (g : Ghosts F) (begin : Content) (rows : List (Row (List ℕ))) (first : ℕ) (text : List ℕ) (content : Content) (desk : D) (file : F) : Type 0 where
-  pub kept : IsKept begin rows first (first + length rows) text content
-  pub begins : BeginsAt first rows
-  pub holds : (view.content desk ≡ content) ⊎ LacksTheLast begin rows (view.content desk)
+pub record IsToBeStarted {D F : Type 0} (view : DeskView D) (g : Ghosts F) (all : JournalText) (desk : D) (file : F) : Type 0 where
+  pub kept : IsKept all.begin all.rows all.first (all.first + length all.rows) all.text all.content
+  pub begins : BeginsAt all.first all.rows
+  pub holds : (view.content desk ≡ all.content) ⊎ LacksTheLast all.begin all.rows (view.content desk)
   pub torn : List ℕ
-  pub bytes : g.seen file ≡ text ++ torn
+  pub bytes : g.seen file ≡ all.text ++ torn
   pub torn_is : HasNoLineFeed torn

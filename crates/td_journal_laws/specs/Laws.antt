@@ -8,7 +8,7 @@ use Rattle.td_desk.specs.View.{DeskView}
 use Rattle.td_journal.specs.Growth.{AreJournaled, HasGrown}
 use Rattle.td_journal.specs.Journal.{next_number, text_of}
 use Rattle.td_journal.specs.declared.desk.JournaledDesk.{JournaledDesk}
-use Rattle.td_journal_laws.specs.Kept.{IsKept, IsKeptAt, IsToBeStarted}
+use Rattle.td_journal_laws.specs.Kept.{IsKept, IsKeptAt, IsToBeStarted, JournalText}
 use Rattle.td_journal_rows.specs.Requests.{IsTyped}
 use Rattle.td_journal_start.specs.Laws.{IsClean}
 use Rattle.td_journal_start.specs.Starts.{IsStartRefused, IsStarted}
@@ -36,13 +36,13 @@ ARunIsWhole {D} {F} view g =
 -- And they make it after a start, where the desk may have lacked the last row, and the file may have had a torn one behind them.
 abbrev pub AStartIsWhole : {D F : Type 0} → DeskView D → Ghosts F → Type 0
 AStartIsWhole {D} {F} view g =
-    (begin content : Content) (rows : List (Row (List ℕ))) (first : ℕ) (text : List ℕ) (desk : D) (file : F) (j : JournaledDesk D F g)
-    → IsToBeStarted view g begin rows first text content desk file → IsStarted view desk file j → IsClean view g j.desk j.journal.file
-    → IsKeptAt view begin rows first j × (view.content j.desk ≡ content) × (text_of j.journal ≡ text)
+    (all : JournalText) (desk : D) (file : F) (j : JournaledDesk D F g)
+    → IsToBeStarted view g all desk file → IsStarted view desk file j → IsClean view g j.desk j.journal.file
+    → IsKeptAt view all.begin all.rows all.first j × (view.content j.desk ≡ all.content) × (text_of j.journal ≡ all.text)
 
 -- Such a start isn't refused for a row of another desk.
 abbrev pub NoStartIsForeign : {D F : Type 0} → DeskView D → Ghosts F → Type 0
 NoStartIsForeign {D} {F} view g =
-    (begin content : Content) (rows : List (Row (List ℕ))) (first number : ℕ) (text : List ℕ) (desk new : D) (file left : F)
-    → IsToBeStarted view g begin rows first text content desk file → IsClean view g new left
+    (all : JournalText) (number : ℕ) (desk new : D) (file left : F)
+    → IsToBeStarted view g all desk file → IsClean view g new left
     → IsStartRefused view g desk file (ForeignRow number) new left → ⊥

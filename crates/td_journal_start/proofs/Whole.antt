@@ -75,7 +75,8 @@ found_is bytes text torn found r last ends bytes_are none journal =
     )
 
 module _ {D F : Type 0} (view : DeskView D) (g : Ghosts F) (begin before after : Content) (rows : List (Row (List ℕ))) (row : Row (List ℕ)) (first : ℕ) (text torn : List ℕ) (desk : D) (file : F)
-    (is : IsJournaled view g begin before after rows row first text torn desk file) where
+    (is : IsJournaled view g (record { begin = begin; first = first; rows = rows; before = before; row = row; after = after; text = text; torn = torn })
+    desk file) where
   abbrev pub TheLast : Numbered
   TheLast = record { number = first + length rows; row = row }
 
@@ -101,21 +102,45 @@ module _ {D F : Type 0} (view : DeskView D) (g : Ghosts F) (begin before after :
       (all.0, all.1)
 
 pub start_is_whole : {D F : Type 0} (view : DeskView D) (g : Ghosts F) → StartIsWhole view g
-start_is_whole view g begin before after rows row first text torn desk file j is started clean =
+start_is_whole view g all desk file j is started clean =
+    let begin = all.begin in
+    let before = all.before in
+    let after = all.after in
+    let rows = all.rows in
+    let row = all.row in
+    let first = all.first in
+    let text = all.text in
+    let torn = all.torn in
     let found = told view g begin before after rows row first text torn desk file is (text_of j.journal) started.last (started.found clean.1) in
     let content = taken view g begin before after rows row first text torn desk file is started.last j.desk found.1 clean.0 started.desk_is in
     let number : first + length rows + 1 ≡ first + (length rows + 1) = omega arith in
     (content.0, content.1, found.0, started.next ∙ (ap next_after found.1 ∙ number))
 
 pub no_row_is_foreign : {D F : Type 0} (view : DeskView D) (g : Ghosts F) → NoRowIsForeign view g
-no_row_is_foreign view g begin before after rows row first text torn desk new file left number is clean (r, same, at) =
+no_row_is_foreign view g all desk new file left number is clean (r, same, at) =
+    let begin = all.begin in
+    let before = all.before in
+    let after = all.after in
+    let rows = all.rows in
+    let row = all.row in
+    let first = all.first in
+    let text = all.text in
+    let torn = all.torn in
     let journal = at.found clean.1 in
     let found = told view g begin before after rows row first text torn desk file is journal.0 (Some r) journal.1 in
     let is_last : r ≡ TheLast view g begin before after rows row first text torn desk file is = cc in
     (ended view g begin before after rows row first text torn desk file is r Foreign (view.content new) is_last (λ sound. at.asked.ends clean.0 sound)).2 refl
 
 pub journal_is_read : {D F : Type 0} (view : DeskView D) (g : Ghosts F) → JournalIsRead view g
-journal_is_read view g begin before after rows row first text torn desk new file left is short clean refused =
+journal_is_read view g all desk new file left is short clean refused =
+    let begin = all.begin in
+    let before = all.before in
+    let after = all.after in
+    let rows = all.rows in
+    let row = all.row in
+    let first = all.first in
+    let text = all.text in
+    let torn = all.torn in
     let ends = lines_end rows row first text is.lines in
     refused.1 clean.1 text (Some (TheLast view g begin before after rows row first text torn desk file is)) (record {
       before = ends.before;

@@ -41,38 +41,47 @@ NotRefusedAgain {D} {F} view g =
     → (IsStartRefused view g again found BadJournal new left → ⊥)
     × ((row : ℕ) → IsStartRefused view g again found (ForeignRow row) new left → ⊥)
 
--- A journal's rows, done one after the other, and the file in which they stand, with a torn row behind them, or nothing. The desk's
--- content is that before the last row or that behind it.
-pub record IsJournaled {D F : Type 0} (view : DeskView D) (g : Ghosts F) (begin before after : Content) (rows : List (Row (List ℕ))) (row : Row (List ℕ))
-    (first : ℕ) (text torn : List ℕ) (desk : D) (file : F) : Type 0 where
-  pub sound : IsSound begin
-  pub done : AreDone body_text begin rows before
-  pub last : IsDone body_text before row after
-  pub holds : (view.content desk ≡ before) ⊎ (view.content desk ≡ after)
-  pub lines : AreLines first (rows ++ row ∷ []) text
-  pub bytes : g.seen file ≡ text ++ torn
-  pub torn_is : HasNoLineFeed torn
+-- A journal's rows: the content that they begin with, the number of the first, all but the last and what these make, the last one and
+-- what it makes; their lines, and what is torn behind them.
+pub record JournalRows : Type 0 where
+  pub begin : Content
+  pub first : ℕ
+  pub rows : List (Row (List ℕ))
+  pub before : Content
+  pub row : Row (List ℕ)
+  pub after : Content
+  pub text : List ℕ
+  pub torn : List ℕ
+
+-- They were done one after the other, and stand in the file. The desk's content is that before the last row or that behind it.
+pub record IsJournaled {D F : Type 0} (view : DeskView D) (g : Ghosts F) (all : JournalRows) (desk : D) (file : F) : Type 0 where
+  pub sound : IsSound all.begin
+  pub done : AreDone body_text all.begin all.rows all.before
+  pub last : IsDone body_text all.before all.row all.after
+  pub holds : (view.content desk ≡ all.before) ⊎ (view.content desk ≡ all.after)
+  pub lines : AreLines all.first (all.rows ++ all.row ∷ []) all.text
+  pub bytes : g.seen file ≡ all.text ++ all.torn
+  pub torn_is : HasNoLineFeed all.torn
 
 -- After a start the desk's content is what all rows make, and the text is their lines.
 abbrev pub StartIsWhole : {D F : Type 0} → DeskView D → Ghosts F → Type 0
 StartIsWhole {D} {F} view g =
-    (begin before after : Content) (rows : List (Row (List ℕ))) (row : Row (List ℕ)) (first : ℕ) (text torn : List ℕ) (desk : D) (file : F)
-    (j : JournaledDesk D F g) → IsJournaled view g begin before after rows row first text torn desk file
+    (all : JournalRows) (desk : D) (file : F) (j : JournaledDesk D F g) → IsJournaled view g all desk file
     → IsStarted view desk file j → IsClean view g j.desk j.journal.file
-    → (view.content j.desk ≡ after) × AreDone body_text begin (rows ++ row ∷ []) (view.content j.desk)
-    × (text_of j.journal ≡ text) × (next_number j.journal ≡ first + (length rows + 1))
+    → (view.content j.desk ≡ all.after) × AreDone body_text all.begin (all.rows ++ all.row ∷ []) (view.content j.desk)
+    × (text_of j.journal ≡ all.text) × (next_number j.journal ≡ all.first + (length all.rows + 1))
 
 -- And no row is told as foreign.
 abbrev pub NoRowIsForeign : {D F : Type 0} → DeskView D → Ghosts F → Type 0
 NoRowIsForeign {D} {F} view g =
-    (begin before after : Content) (rows : List (Row (List ℕ))) (row : Row (List ℕ)) (first : ℕ) (text torn : List ℕ) (desk new : D) (file left : F) (number : ℕ)
-    → IsJournaled view g begin before after rows row first text torn desk file → IsClean view g new left
+    (all : JournalRows) (desk new : D) (file left : F) (number : ℕ)
+    → IsJournaled view g all desk file → IsClean view g new left
     → IsStartRefused view g desk file (ForeignRow number) new left → ⊥
 
 -- Nor is the file none of a journal, where the last line and what is torn behind it are less than what is read of a file.
 abbrev pub JournalIsRead : {D F : Type 0} → DeskView D → Ghosts F → Type 0
 JournalIsRead {D} {F} view g =
-    (begin before after : Content) (rows : List (Row (List ℕ))) (row : Row (List ℕ)) (first : ℕ) (text torn : List ℕ) (desk new : D) (file left : F)
-    → IsJournaled view g begin before after rows row first text torn desk file
-    → ((line : List ℕ) → IsLine (record { number = first + length rows; row = row }) line → length line + length torn < tail)
+    (all : JournalRows) (desk new : D) (file left : F)
+    → IsJournaled view g all desk file
+    → ((line : List ℕ) → IsLine (record { number = all.first + length all.rows; row = all.row }) line → length line + length all.torn < tail)
     → IsClean view g new left → IsStartRefused view g desk file BadJournal new left → ⊥

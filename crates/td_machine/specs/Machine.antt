@@ -1,6 +1,6 @@
 -- What is known of the machine that a program stands in.
 use Rattle.std.specs.Prelude.{◌≡◌, ℕ, ℤ, List, Option, None, Some}
-use Rattle.std.specs.declared.io.Error.{Error}
+use Rattle.td_http.specs.Connections.{KnownConnections}
 use Rattle.td_machine.specs.declared.machine.ReadError.{ReadError}
 use Rattle.td_machine.specs.declared.machine.ReadError.TheVariants.{File, NoMemory}
 
@@ -22,13 +22,7 @@ pub record Around (M L R W : Type 0) : Type 1 where
   pub known : Known M L
   -- its clock is asked: the machine, the seconds since 1970, the machine after it
   pub ticks : M → ℤ → M → Type 0
-  -- what is known of the bytes of a connection still to be read, and of those written
-  pub remaining : R → Option (List ℕ)
-  pub contents : W → Option (List ℕ)
-  -- the source gives a connection, takes it back, or has none
-  pub gives : L → R → W → L → Type 0
-  pub takes : L → R → W → L → Type 0
-  pub refuses : L → Error → L → Type 0
+  pub connections : KnownConnections L R W
 
 -- The bytes are those of the file at the path, where these are known.
 abbrev pub AreHeld : Option (List ℕ) → List ℕ → Type 0

@@ -28,10 +28,12 @@ impl<M: Machine> Surroundings for M {
     ghost around = { record {
       known = M.known;
       ticks = M.ticks;
-      remaining = M.Incoming.Reader.remaining;
-      contents = M.Incoming.Writer.contents;
-      gives = M.Incoming.gives;
-      takes = M.Incoming.takes;
-      refuses = M.Incoming.refuses;
+      connections = record {
+        remaining = M.Incoming.Reader.remaining;
+        contents = M.Incoming.Writer.contents;
+        gives = M.Incoming.gives;
+        takes = M.Incoming.takes;
+        refuses = M.Incoming.refuses;
+      };
     } };
 }

@@ -1,7 +1,6 @@
 //! A law of a machine in memory, as the contract of a function that does nothing.
 ghost use Rattle.std.specs.Prelude.{List};
-ghost use Rattle.td_http.specs.Connections.{Between, Connection, ServedConnections};
-ghost use Rattle.td_http.specs.Serving.{IsHandledBy, IsHeadHandledBy};
+ghost use Rattle.td_http.specs.Connections.{Between, Connection, ServedConnections, connections_by, desk_server};
 ghost use Rattle.td_http.specs.declared.service.Service.{Service};
 ghost use Rattle.td_machine.specs.Pinned.{AreServedInOrder};
 
@@ -15,9 +14,9 @@ use td_http::{Clock, Connections};
 /// kept in that client's place.
 pub fn clients_are_served_in_order<C: Clock, D: Desk>()
     ensures { (old new : Between MemoryIncoming C (Service D)) (all_served : List (Connection _ _))
-        → ServedConnections ⟦<VecDeque<u8> as Read>⟧.remaining ⟦<Vec<u8> as Write>⟧.contents
-        ⟦<MemoryIncoming as Connections>⟧.gives ⟦<MemoryIncoming as Connections>⟧.takes C.ticks (IsHandledBy D.seen) IsHeadHandledBy
-        old all_served new
+        → ServedConnections (connections_by ⟦<VecDeque<u8> as Read>⟧.remaining ⟦<Vec<u8> as Write>⟧.contents
+        ⟦<MemoryIncoming as Connections>⟧.gives ⟦<MemoryIncoming as Connections>⟧.takes ⟦<MemoryIncoming as Connections>⟧.refuses)
+        (desk_server C.ticks D.seen) old all_served new
         → AreServedInOrder old.source.clients.items new.source.clients.items old.source.told.items new.source.told.items
         old.source.gone all_served }
 {}

@@ -18,7 +18,8 @@ use Rattle.td_batch.specs.Laws.{stamped_rows}
 use Rattle.td_batch.specs.Runs.{at_moment, outcomes_of, tried, Ends, IsRowDone, IsRunOf}
 use Rattle.td_batch.proofs.AgainAtDesk.{clean_back}
 use Rattle.td_batch.proofs.RowsRun.{rows_run}
-use Rattle.td_split_jobs.specs.Rows.{IsBatchAt}
+use Rattle.td_split.specs.Split.{Shards}
+use Rattle.td_split_jobs.specs.Rows.{BatchAt, BatchForm, IsBatchAt}
 use Rattle.td_split_jobs.proofs.Contents.{fresh_tied}
 
 -- this was said to all of them
@@ -60,13 +61,22 @@ first_steps R (suc m) (row ∷ rows) (s ∷ said) others old new within steps =
 
 -- ---- a batch at a desk
 
+abbrev pub form_of : (Command → Said → List ℕ) → List ℕ → ℤ → BatchForm
+form_of line header at = record { line = line; header = header; at = at }
+
+abbrev pub batch_of : {D : Type 0} → BatchRun → List Said → D → D → BatchAt D
+batch_of r said old new = record { run = r; said = said; old = old; new = new }
+
+abbrev pub shards_of : List ℕ → (ℕ → ℕ) → ℕ → Shards
+shards_of country f desks = record { country = country; home = f; count = desks }
+
 -- as many rows as were done are there
 pub rows_there : (rows : List Command) (said : List Said) (stopped : Option Fault) → Ends rows said stopped → length said ≤ length rows
 rows_there rows said None ends = omega (arith, ends)
 rows_there rows said (Some why) ends = let all = ends.1 in omega (arith, all)
 
 module _ {D : Type 0} (view : DeskView D) (line : Command → Said → List ℕ) (header : List ℕ) (at : ℤ) (country : List ℕ)
-    (rows : List Command) (r : BatchRun) (said : List Said) (old new : D) (batch : IsBatchAt view line header at country rows r said old new) where
+    (rows : List Command) (r : BatchRun) (said : List Said) (old new : D) (batch : IsBatchAt view (form_of line header at) country rows (batch_of r said old new)) where
   pub said_within : length said ≤ length rows
   said_within = rows_there rows said r.stopped (subst (λ s. Ends rows s r.stopped) batch.said_is batch.done.ends)
 
@@ -106,7 +116,7 @@ module _ {D : Type 0} (view : DeskView D) (line : Command → Said → List ℕ)
 -- what the calls of a batch promise is such a batch, where there was memory for the header of the result file
 pub batch_at : {D : Type 0} (view : DeskView D) (line : Command → Said → List ℕ) (header : List ℕ) (at : ℤ) (rows : List Command)
     (r : BatchRun) (old new : D) → IsRunOf view line header at rows r old new → view.is_clean new → view.is_live old → IsSound (view.content old) → r.text.items ≢ []
-    → (said : List Said) × IsBatchAt view line header at (view.content old).country rows r said old new
+    → (said : List Said) × IsBatchAt view (form_of line header at) (view.content old).country rows (batch_of r said old new)
 batch_at view line header at rows r old new (inl nothing) clean live sound there = absurd (there nothing.1)
 batch_at view line header at rows r old new (inr done) clean live sound there = (
   done.said,

@@ -65,7 +65,8 @@ pub union_is_content : UnionIsOneContent → (country : List ℕ) (f : ℕ → �
     → ((H : ℕ) → f H < desks) → ((i : ℕ) → i < desks → ((ends i).country ≡ country) × IsSound (ends i)) → ((H : ℕ) → rows_of H (ends (f H)) ≡ rows_of H c)
     → c ≡ record { country = country; holders = union f desks ends }
 union_is_content law country f desks c ends here sound placed theirs same =
-    law country f desks [] (λ H. fresh H c) [] c (λ i H. fresh H (ends i)) (λ i. []) ends
+    law (record { country = country; home = f; count = desks }) [] (record { books = λ H. fresh H c; outcomes = []; end = c })
+    (λ i. record { books = λ H. fresh H (ends i); outcomes = []; end = ends i })
     (record {
       placed = placed;
       sent_to = tt;

@@ -27,6 +27,7 @@ use Rattle.td_http.specs.Serving.{command_in, commands_of, desk_of, FaultsAreTol
 use Rattle.td_http.proofs.Alike.{heard_then, still}
 use Rattle.td_http.proofs.ConnectionsAlike.{tell_alike_over}
 use Rattle.td_split.specs.Laws.{UnionIsOneContent}
+use Rattle.td_split_jobs.proofs.Batches.{shards_of}
 use Rattle.td_split_jobs.specs.Gathered.{gathered}
 use Rattle.td_split_jobs.specs.Requests.{Request, SentRequest, all_replies, asked_of, requests_for, requests_in, requests_over, IsRequestSentTo, IsServingAt, IsSplitServing}
 use Rattle.td_split_jobs.specs.RequestLaws.{RepliesAreGathered, ServingsHoldAsOne, ServingsTellAsOne}
@@ -272,7 +273,8 @@ made_are (reply ∷ replies) = ap₂ (λ (b : Bool) (l : List Bool). b ∷ l) (m
 
 module _ {D E : Type 0} (view : DeskView D) (other : DeskView E) (country : List ℕ) (f : ℕ → ℕ) (desks : ℕ) (sent : List SentRequest) (streams : List (List Exchange))
     (parts : ℕ → List (List Exchange)) (old new : Service D) (olds news : ℕ → Service E)
-    (split : IsSplitServing view other country f desks sent streams parts old new olds news) where
+    (split : IsSplitServing view other (shards_of country f desks) sent (record { streams = streams; old = old; new = new })
+    (λ i. record { streams = parts i; old = olds i; new = news i })) where
   module _ (H : ℕ) where
     one_served : (c : Content) × IsServedOver country (λ G. fresh G (view.content (desk_of old))) streams c × (view.is_live (desk_of new) → view.content (desk_of new) ≡ c)
     one_served = serving_is view country streams old new split.one
@@ -408,25 +410,52 @@ module _ {D E : Type 0} (view : DeskView D) (other : DeskView E) (country : List
   bytes_are = gathered_map bytes_of (map (λ s. s.desk) sent) (λ i. all_replies (parts i)) (λ i. map bytes_of (all_replies (parts i))) (λ j. refl)
 
 pub servings_tell_as_one : {D E : Type 0} (view : DeskView D) (other : DeskView E) → ServingsTellAsOne view other
-servings_tell_as_one view other country f desks sent streams parts old new olds news split H = (
-  λ failed. (told_alike view other country f desks sent streams parts old new olds news split H).replies
-      (agree view other country f desks sent streams parts old new olds news split H) failed,
-  λ failed. (
-    (told_alike view other country f desks sent streams parts old new olds news split H).told
-        (agree view other country f desks sent streams parts old new olds news split H) failed,
-    rows_alike view other country f desks sent streams parts old new olds news split H failed,
-  ),
-)
+servings_tell_as_one {E = E} view other shards sent serving servings split H =
+    let country = shards.country in
+    let f = shards.home in
+    let desks = shards.count in
+    let streams = serving.streams in
+    let old = serving.old in
+    let new = serving.new in
+    let parts : ℕ → List (List Exchange) = λ i. (servings i).streams in
+    let olds : ℕ → Service E = λ i. (servings i).old in
+    let news : ℕ → Service E = λ i. (servings i).new in (
+      λ failed. (told_alike view other country f desks sent streams parts old new olds news split H).replies
+          (agree view other country f desks sent streams parts old new olds news split H) failed,
+      λ failed. (
+        (told_alike view other country f desks sent streams parts old new olds news split H).told
+            (agree view other country f desks sent streams parts old new olds news split H) failed,
+        rows_alike view other country f desks sent streams parts old new olds news split H failed,
+      ),
+    )
 
 pub replies_are_gathered : {D E : Type 0} (view : DeskView D) (other : DeskView E) → RepliesAreGathered view other
-replies_are_gathered view other country f desks sent streams parts old new olds news split same =
+replies_are_gathered {E = E} view other shards sent serving servings split same =
+    let country = shards.country in
+    let f = shards.home in
+    let desks = shards.count in
+    let streams = serving.streams in
+    let old = serving.old in
+    let new = serving.new in
+    let parts : ℕ → List (List Exchange) = λ i. (servings i).streams in
+    let olds : ℕ → Service E = λ i. (servings i).old in
+    let news : ℕ → Service E = λ i. (servings i).new in
     let faults = faults_are view other country f desks sent streams parts old new olds news split same in (
       bytes_gathered view other country f desks sent streams parts old new olds news split faults ∙ bytes_are view other country f desks sent streams parts old new olds news split,
       λ H. (failed_alike view other country f desks sent streams parts old new olds news split faults H, failed_together view other country f desks sent streams parts old new olds news split faults H),
     )
 
 pub servings_hold_as_one : UnionIsOneContent → {D E : Type 0} (view : DeskView D) (other : DeskView E) → ServingsHoldAsOne view other
-servings_hold_as_one law view other country f desks sent streams parts old new olds news split failed live others_live =
+servings_hold_as_one law {E = E} view other shards sent serving servings split failed live others_live =
+    let country = shards.country in
+    let f = shards.home in
+    let desks = shards.count in
+    let streams = serving.streams in
+    let old = serving.old in
+    let new = serving.new in
+    let parts : ℕ → List (List Exchange) = λ i. (servings i).streams in
+    let olds : ℕ → Service E = λ i. (servings i).old in
+    let news : ℕ → Service E = λ i. (servings i).new in
     let held = serving_end view country streams old new split.one live in
     union_is_content law country f desks (view.content (desk_of new)) (λ i. other.content (desk_of (news i))) held.0 held.1 split.placed
     (λ i below. serving_end other country (parts i) (olds i) (news i) (split.many i below) (others_live i below))

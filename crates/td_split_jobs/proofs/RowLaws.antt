@@ -26,7 +26,7 @@ use Rattle.td_batch.specs.Runs.{at_moment, outcomes_of, tried, Ends}
 use Rattle.td_split_jobs.specs.Gathered.{gathered}
 use Rattle.td_split_jobs.specs.Rows.{SentRow, all_rows, desks_of, own_lines, result_lines, rows_for, failures_in, IsBatchAt, IsRowSentTo, IsSplitBatch}
 use Rattle.td_split_jobs.specs.RowLaws.{BatchesHoldAsOne, BatchesTellAsOne, ResultIsGathered, RowsAreGathered}
-use Rattle.td_split_jobs.proofs.Batches.{all_heard, all_said, batch_is_run, beginning_is_run, done_is, end_of, none_failed, outcome_each, outcomes_are, said_within}
+use Rattle.td_split_jobs.proofs.Batches.{batch_of, form_of, shards_of, all_heard, all_said, batch_is_run, beginning_is_run, done_is, end_of, none_failed, outcome_each, outcomes_are, said_within}
 use Rattle.td_split_jobs.proofs.Contents.{runs_alike, same_fresh, union_is_content}
 use Rattle.td_split_jobs.proofs.Places.{filter_map, filter_take, at_desk, gathered_holds, gathered_own, length_gathered, mine_at_home, nobodys_alike, own, own_take, same_places, Fits, Holds, IsPlaced}
 
@@ -154,7 +154,7 @@ module _ (at : ℤ) (country : List ℕ) where
 -- ---- the text of a whole batch
 
 module _ {D : Type 0} (view : DeskView D) (line : Command → Said → List ℕ) (header : List ℕ) (at : ℤ) (country : List ℕ)
-    (rows : List Command) (r : BatchRun) (words : List Said) (old new : D) (batch : IsBatchAt view line header at country rows r words old new) where
+    (rows : List Command) (r : BatchRun) (words : List Said) (old new : D) (batch : IsBatchAt view (form_of line header at) country rows (batch_of r words old new)) where
   text_of : r.text.items ≡ header ++ concat (result_lines line rows words)
   text_of =
       subst (λ s. r.text.items ≡ header ++ result_rows line (take (length s) rows) s) batch.said_is batch.done.text
@@ -218,7 +218,8 @@ part_begins at country H n rows =
 module _ {D E : Type 0} (view : DeskView D) (other : DeskView E)
     (line : Command → Said → List ℕ) (header : List ℕ) (at : ℤ) (country : List ℕ) (f : ℕ → ℕ) (desks : ℕ) (sent : List SentRow)
     (r : BatchRun) (runs : ℕ → BatchRun) (words : List Said) (answers : ℕ → List Said) (old new : D) (olds news : ℕ → E)
-    (split : IsSplitBatch view other line header at country f desks sent r runs words answers old new olds news) where
+    (split : IsSplitBatch view other (form_of line header at) (shards_of country f desks) sent (batch_of r words old new)
+    (λ i. batch_of (runs i) (answers i) (olds i) (news i))) where
   begun_alike : (H : ℕ) → fresh H (view.content old) ≡ fresh H (other.content (olds (f H)))
   begun_alike H =
       same_fresh H (view.content old) (other.content (olds (f H)))
@@ -342,7 +343,21 @@ module _ {D E : Type 0} (view : DeskView D) (other : DeskView E)
 
 pub rows_are_gathered : {D E : Type 0} (view : DeskView D) (other : DeskView E)
     → RowsAreGathered view other
-rows_are_gathered view other line header at country f desks sent r runs words answers old new olds news split n did others_did =
+rows_are_gathered {E = E} view other form shards sent batch batches split n did others_did =
+    let line = form.line in
+    let header = form.header in
+    let at = form.at in
+    let country = shards.country in
+    let f = shards.home in
+    let desks = shards.count in
+    let r = batch.run in
+    let words = batch.said in
+    let old = batch.old in
+    let new = batch.new in
+    let runs : ℕ → BatchRun = λ i. (batches i).run in
+    let answers : ℕ → List Said = λ i. (batches i).said in
+    let olds : ℕ → E = λ i. (batches i).old in
+    let news : ℕ → E = λ i. (batches i).new in
     first_gathered view other line header at country f desks sent r runs words answers old new olds news split n
     (subst (λ m. n ≤ m) (done_is view line header at country (all_rows sent) r words old new split.one) did)
     (λ i below. subst (λ m. length (rows_for i (take n sent)) ≤ m)
@@ -352,7 +367,8 @@ rows_are_gathered view other line header at country f desks sent r runs words an
 module _ {D E : Type 0} (view : DeskView D) (other : DeskView E)
     (line : Command → Said → List ℕ) (header : List ℕ) (at : ℤ) (country : List ℕ) (f : ℕ → ℕ) (desks : ℕ) (sent : List SentRow)
     (r : BatchRun) (runs : ℕ → BatchRun) (words : List Said) (answers : ℕ → List Said) (old new : D) (olds news : ℕ → E)
-    (split : IsSplitBatch view other line header at country f desks sent r runs words answers old new olds news)
+    (split : IsSplitBatch view other (form_of line header at) (shards_of country f desks) sent (batch_of r words old new)
+    (λ i. batch_of (runs i) (answers i) (olds i) (news i)))
     (whole : r.stopped ≡ None) (others_whole : (i : ℕ) → i < desks → (runs i).stopped ≡ None) where
   all_number : length words ≡ length sent
   all_number = all_said_of view line header at country (all_rows sent) r words old new split.one whole ∙ length-map sent (λ s. s.command)
@@ -405,22 +421,37 @@ whole_part at country f desks H sent sent_to =
 
 pub result_is_gathered : {D E : Type 0} (view : DeskView D) (other : DeskView E)
     → ResultIsGathered view other
-result_is_gathered view other line header at country f desks sent r runs words answers old new olds news split whole others_whole = (
-  λ i below. text_of other line header at country (rows_for i sent) (runs i) (answers i) (olds i) (news i) (split.many i below),
-  text_of view line header at country (all_rows sent) r words old new split.one
-      ∙ ap (λ (l : List (List ℕ)). header ++ concat l)
-      (gathered_all view other line header at country f desks sent r runs words answers old new olds news split whole others_whole),
-  λ H. unfailed at country H (all_rows sent) r words whole (all_said_of view line header at country (all_rows sent) r words old new split.one whole)
-      ∙ ap (map (λ _. false)) (whole_part at country f desks H sent split.sent_to)
-      ∙ sym (unfailed at country H (rows_for (f H) sent) (runs (f H)) (answers (f H)) (others_whole (f H) (split.placed H))
-      (all_their_number view other line header at country f desks sent r runs words answers old new olds news split whole others_whole (f H) (split.placed H))),
-)
+result_is_gathered {E = E} view other form shards sent batch batches split whole others_whole =
+    let line = form.line in
+    let header = form.header in
+    let at = form.at in
+    let country = shards.country in
+    let f = shards.home in
+    let desks = shards.count in
+    let r = batch.run in
+    let words = batch.said in
+    let old = batch.old in
+    let new = batch.new in
+    let runs : ℕ → BatchRun = λ i. (batches i).run in
+    let answers : ℕ → List Said = λ i. (batches i).said in
+    let olds : ℕ → E = λ i. (batches i).old in
+    let news : ℕ → E = λ i. (batches i).new in (
+      λ i below. text_of other line header at country (rows_for i sent) (runs i) (answers i) (olds i) (news i) (split.many i below),
+      text_of view line header at country (all_rows sent) r words old new split.one
+          ∙ ap (λ (l : List (List ℕ)). header ++ concat l)
+          (gathered_all view other line header at country f desks sent r runs words answers old new olds news split whole others_whole),
+      λ H. unfailed at country H (all_rows sent) r words whole (all_said_of view line header at country (all_rows sent) r words old new split.one whole)
+          ∙ ap (map (λ _. false)) (whole_part at country f desks H sent split.sent_to)
+          ∙ sym (unfailed at country H (rows_for (f H) sent) (runs (f H)) (answers (f H)) (others_whole (f H) (split.placed H))
+          (all_their_number view other line header at country f desks sent r runs words answers old new olds news split whole others_whole (f H) (split.placed H))),
+    )
 
 -- what split batches tell H
 module _ {D E : Type 0} (view : DeskView D) (other : DeskView E)
     (line : Command → Said → List ℕ) (header : List ℕ) (at : ℤ) (country : List ℕ) (f : ℕ → ℕ) (desks : ℕ) (sent : List SentRow)
     (r : BatchRun) (runs : ℕ → BatchRun) (words : List Said) (answers : ℕ → List Said) (old new : D) (olds news : ℕ → E)
-    (split : IsSplitBatch view other line header at country f desks sent r runs words answers old new olds news)
+    (split : IsSplitBatch view other (form_of line header at) (shards_of country f desks) sent (batch_of r words old new)
+    (λ i. batch_of (runs i) (answers i) (olds i) (news i)))
     (H : ℕ) (failed : failures_in country H at (all_rows sent) r words ≡ failures_in country H at (rows_for (f H) sent) (runs (f H)) (answers (f H))) where
   abbrev list : List Stamped
   list = stamped_rows at (all_rows sent) r words
@@ -475,14 +506,42 @@ module _ {D E : Type 0} (view : DeskView D) (other : DeskView E)
 
 pub batches_tell_as_one : {D E : Type 0} (view : DeskView D) (other : DeskView E)
     → BatchesTellAsOne view other
-batches_tell_as_one view other line header at country f desks sent r runs words answers old new olds news split H failed = (
-  lines_alike view other line header at country f desks sent r runs words answers old new olds news split H failed,
-  rows_alike view other line header at country f desks sent r runs words answers old new olds news split H failed,
-)
+batches_tell_as_one {E = E} view other form shards sent batch batches split H failed =
+    let line = form.line in
+    let header = form.header in
+    let at = form.at in
+    let country = shards.country in
+    let f = shards.home in
+    let desks = shards.count in
+    let r = batch.run in
+    let words = batch.said in
+    let old = batch.old in
+    let new = batch.new in
+    let runs : ℕ → BatchRun = λ i. (batches i).run in
+    let answers : ℕ → List Said = λ i. (batches i).said in
+    let olds : ℕ → E = λ i. (batches i).old in
+    let news : ℕ → E = λ i. (batches i).new in (
+      lines_alike view other line header at country f desks sent r runs words answers old new olds news split H failed,
+      rows_alike view other line header at country f desks sent r runs words answers old new olds news split H failed,
+    )
 
 pub batches_hold_as_one : UnionIsOneContent → {D E : Type 0} (view : DeskView D) (other : DeskView E)
     → BatchesHoldAsOne view other
-batches_hold_as_one law view other line header at country f desks sent r runs words answers old new olds news split failed live others_live =
+batches_hold_as_one law {E = E} view other form shards sent batch batches split failed live others_live =
+    let line = form.line in
+    let header = form.header in
+    let at = form.at in
+    let country = shards.country in
+    let f = shards.home in
+    let desks = shards.count in
+    let r = batch.run in
+    let words = batch.said in
+    let old = batch.old in
+    let new = batch.new in
+    let runs : ℕ → BatchRun = λ i. (batches i).run in
+    let answers : ℕ → List Said = λ i. (batches i).said in
+    let olds : ℕ → E = λ i. (batches i).old in
+    let news : ℕ → E = λ i. (batches i).new in
     let held = end_is view line header at country (all_rows sent) r words old new split.one live in
     union_is_content law country f desks (view.content new) (λ i. other.content (news i)) held.0 held.1 split.placed
     (λ i below. end_is other line header at country (rows_for i sent) (runs i) (answers i) (olds i) (news i) (split.many i below) (others_live i below))

@@ -11,6 +11,7 @@ use Rattle.http_wire.specs.Stream.{Exchange, question}
 use Rattle.td_http.specs.declared.service.Service.{Service}
 use Rattle.td_http.specs.Private.{IsPrivateOver}
 use Rattle.td_http.specs.Serving.{command_in, desk_of}
+use Rattle.td_split.specs.Split.{Shards}
 
 -- A request as a desk is asked it: its moment, its command or why it can't be read, and whether its reply has to tell that the
 -- stream stops.
@@ -67,15 +68,20 @@ pub record IsServingAt {D : Type 0} (view : DeskView D) (country : List ℕ) (st
   pub clean : view.is_clean (desk_of new)
   pub private : IsPrivateOver view old new streams
 
--- Requests were split among so many desks by f: one desk was asked all of them, and each of the others those that were sent to it,
--- over whatever connections. In the beginning each of these had the one desk's rows of its own holders.
-pub record IsSplitServing {D E : Type 0} (view : DeskView D) (other : DeskView E) (country : List ℕ) (f : ℕ → ℕ) (desks : ℕ)
-    (sent : List SentRequest) (streams : List (List Exchange)) (parts : ℕ → List (List Exchange))
-    (old new : Service D) (olds news : ℕ → Service E) : Type 0 where
-  pub placed : (H : ℕ) → f H < desks
-  pub sent_to : AllByRecursion (IsRequestSentTo country f desks) sent
-  pub one : IsServingAt view country streams old new
-  pub asked : requests_over streams ≡ map (λ s. s.request) sent
-  pub many : (i : ℕ) → i < desks → IsServingAt other country (parts i) (olds i) (news i)
-  pub shares : (i : ℕ) → i < desks → requests_over (parts i) ≡ requests_for i sent
-  pub begun : (H : ℕ) → rows_of H (other.content (desk_of (olds (f H)))) ≡ rows_of H (view.content (desk_of old))
+-- what connections asked a desk and were told, and the desk's service before and after them
+pub record ServingAt (D : Type 0) : Type 0 where
+  pub streams : List (List Exchange)
+  pub old : Service D
+  pub new : Service D
+
+-- Requests were split among desks: one desk was asked all of them, and each of the others those that were sent to it, over whatever
+-- connections. In the beginning each of these had the one desk's rows of its own holders.
+pub record IsSplitServing {D E : Type 0} (view : DeskView D) (other : DeskView E) (shards : Shards) (sent : List SentRequest)
+    (serving : ServingAt D) (servings : ℕ → ServingAt E) : Type 0 where
+  pub placed : (H : ℕ) → shards.home H < shards.count
+  pub sent_to : AllByRecursion (IsRequestSentTo shards.country shards.home shards.count) sent
+  pub one : IsServingAt view shards.country serving.streams serving.old serving.new
+  pub asked : requests_over serving.streams ≡ map (λ s. s.request) sent
+  pub many : (i : ℕ) → i < shards.count → IsServingAt other shards.country (servings i).streams (servings i).old (servings i).new
+  pub shares : (i : ℕ) → i < shards.count → requests_over (servings i).streams ≡ requests_for i sent
+  pub begun : (H : ℕ) → rows_of H (other.content (desk_of (servings (shards.home H)).old)) ≡ rows_of H (view.content (desk_of serving.old))

@@ -10,6 +10,7 @@ use Rattle.td_desk.specs.View.{DeskView}
 use Rattle.td_batch.specs.declared.running.BatchRun.{BatchRun}
 use Rattle.td_batch.specs.Laws.{stamped_rows}
 use Rattle.td_batch.specs.Runs.{IsBatchDone, outcomes_of}
+use Rattle.td_split.specs.Split.{Shards}
 
 -- a row's command, and the number of the desk that it is sent to
 pub record SentRow : Type 0 where
@@ -50,27 +51,35 @@ own_lines country H line (row ∷ rows) (s ∷ said) =
 abbrev pub failures_in : List ℕ → ℕ → ℤ → List Command → BatchRun → List Said → List Bool
 failures_in country H at rows r said = failures country H (stamped_rows at rows r said) (outcomes_of said r.stopped)
 
--- A batch was done at a desk of that country, and this was said to its rows. No fault had shut the desk, its content was sound, and
--- in the end its disk is clean.
-pub record IsBatchAt {D : Type 0} (view : DeskView D)
-    (line : Command → Said → List ℕ) (header : List ℕ) (at : ℤ) (country : List ℕ)
-    (rows : List Command) (r : BatchRun) (said : List Said) (old new : D) : Type 0 where
-  pub country_is : (view.content old).country ≡ country
-  pub live : view.is_live old
-  pub sound : IsSound (view.content old)
-  pub clean : view.is_clean new
-  pub done : IsBatchDone view line header at rows r old new
-  pub said_is : done.said ≡ said
+-- What rows become in a result file, and when they are done: a row's line, by its command and by what was said to it, the line above
+-- all of them, and the moment.
+pub record BatchForm : Type 0 where
+  pub line : Command → Said → List ℕ
+  pub header : List ℕ
+  pub at : ℤ
 
--- The rows of a file were split among so many desks by f: one desk did all of them, and each of the others those that were sent to
--- it, all at one moment. In the beginning each of these had the one desk's rows of its own holders.
-pub record IsSplitBatch {D E : Type 0} (view : DeskView D)
-    (other : DeskView E)
-    (line : Command → Said → List ℕ) (header : List ℕ) (at : ℤ) (country : List ℕ) (f : ℕ → ℕ) (desks : ℕ) (sent : List SentRow)
-    (r : BatchRun) (runs : ℕ → BatchRun) (said : List Said) (answers : ℕ → List Said) (old new : D) (olds news : ℕ → E) : Type 0 where
-  pub placed : (H : ℕ) → f H < desks
-  pub sent_to : AllByRecursion (IsRowSentTo country f desks) sent
-  pub one : IsBatchAt view line header at country (all_rows sent) r said old new
-  pub many : (i : ℕ) → i < desks
-      → IsBatchAt other line header at country (rows_for i sent) (runs i) (answers i) (olds i) (news i)
-  pub begun : (H : ℕ) → rows_of H (other.content (olds (f H))) ≡ rows_of H (view.content old)
+-- a batch at a desk: what it came to, what was said to its rows, and the desk before and after it
+pub record BatchAt (D : Type 0) : Type 0 where
+  pub run : BatchRun
+  pub said : List Said
+  pub old : D
+  pub new : D
+
+-- A batch was done at a desk of that country. No fault had shut the desk, its content was sound, and in the end its disk is clean.
+pub record IsBatchAt {D : Type 0} (view : DeskView D) (form : BatchForm) (country : List ℕ) (rows : List Command) (batch : BatchAt D) : Type 0 where
+  pub country_is : (view.content batch.old).country ≡ country
+  pub live : view.is_live batch.old
+  pub sound : IsSound (view.content batch.old)
+  pub clean : view.is_clean batch.new
+  pub done : IsBatchDone view form.line form.header form.at rows batch.run batch.old batch.new
+  pub said_is : done.said ≡ batch.said
+
+-- The rows of a file were split among desks: one desk did all of them, and each of the others those that were sent to it, all at one
+-- moment. In the beginning each of these had the one desk's rows of its own holders.
+pub record IsSplitBatch {D E : Type 0} (view : DeskView D) (other : DeskView E) (form : BatchForm) (shards : Shards) (sent : List SentRow)
+    (batch : BatchAt D) (batches : ℕ → BatchAt E) : Type 0 where
+  pub placed : (H : ℕ) → shards.home H < shards.count
+  pub sent_to : AllByRecursion (IsRowSentTo shards.country shards.home shards.count) sent
+  pub one : IsBatchAt view form shards.country (all_rows sent) batch
+  pub many : (i : ℕ) → i < shards.count → IsBatchAt other form shards.country (rows_for i sent) (batches i)
+  pub begun : (H : ℕ) → rows_of H (other.content (batches (shards.home H)).old) ≡ rows_of H (view.content batch.old)

@@ -19,8 +19,8 @@ pub fn run_declaration_share<D: Desk>(
     rows: &[DeclarationRow],
 ) -> BatchRun
     ensures { D.seen.is_clean desk.new → D.seen.is_live desk.old → IsSound (D.seen.content desk.old) → result.text.items ≢ []
-        → (said : List Said) × IsBatchAt D.seen declaration_result declarations_header at (D.seen.content desk.old).country
-        rows.now result said desk.old desk.new }
+        → (said : List Said) × IsBatchAt D.seen (record { line = declaration_result; header = declarations_header; at = at })
+        (D.seen.content desk.old).country rows.now (record { run = result; said = said; old = desk.old; new = desk.new }) }
 {
     run_declarations(alloc, desk, at, rows)
 }
@@ -28,8 +28,8 @@ pub fn run_declaration_share<D: Desk>(
 /// The same of acts, as `run_acts` does them.
 pub fn run_act_share<D: Desk>(alloc: Global, desk: &mut D, at: i64, rows: &[ActRow]) -> BatchRun
     ensures { D.seen.is_clean desk.new → D.seen.is_live desk.old → IsSound (D.seen.content desk.old) → result.text.items ≢ []
-        → (said : List Said) × IsBatchAt D.seen act_result acts_header at (D.seen.content desk.old).country
-        rows.now result said desk.old desk.new }
+        → (said : List Said) × IsBatchAt D.seen (record { line = act_result; header = acts_header; at = at })
+        (D.seen.content desk.old).country rows.now (record { run = result; said = said; old = desk.old; new = desk.new }) }
 {
     run_acts(alloc, desk, at, rows)
 }

@@ -1,8 +1,8 @@
 //! Connections served at a desk, as the laws of split requests speak of them.
 ghost use Rattle.std.specs.Prelude.{map};
 ghost use Rattle.td_desk.specs.Content.{IsSound};
-ghost use Rattle.td_http.specs.Connections.{ServesConnections};
-ghost use Rattle.td_http.specs.Serving.{desk_of, IsHandledBy, IsHeadHandledBy};
+ghost use Rattle.td_http.specs.Connections.{ServesConnections, connections_by, desk_server};
+ghost use Rattle.td_http.specs.Serving.{desk_of};
 ghost use Rattle.td_split_jobs.specs.Requests.{IsServingAt};
 
 use std::alloc::Global;
@@ -18,8 +18,8 @@ pub fn serve_share<L: Connections, C: Clock, D: Desk>(
     clock: &mut C,
     service: &mut Service<D>,
 ) -> io::Result<()>
-    ensures { (served : ServesConnections L.Reader.remaining L.Writer.contents L.gives L.takes L.refuses
-        C.ticks (IsHandledBy D.seen) IsHeadHandledBy
+    ensures { (served : ServesConnections
+        (connections_by L.Reader.remaining L.Writer.contents L.gives L.takes L.refuses) (desk_server C.ticks D.seen)
         (record { source = connections.old; clock = clock.old; handler = service.old })
         (record { source = connections.new; clock = clock.new; handler = service.new }) count result)
         × (D.seen.is_clean (desk_of service.new) → D.seen.is_live (desk_of service.old) → IsSound (D.seen.content (desk_of service.old))

@@ -9,14 +9,14 @@ use Rattle.td_cli.proofs.BatchesAlike.{from_opened}
 use Rattle.td_cli.proofs.batch_laws.agreeing_batches_over_files_tell_the_same.Goals as goal
 
 pub returns : goal.returns
-returns g c = λ country H which other_which at other_at image other_image opened left other_opened other_left rows other_rows clock clock_left other_clock other_clock_left r other_r begins other_begins one other clean other_clean alike agree failed.
-    let run = from_opened (result_line which) (header_of which) image country one.moment rows r opened left begins clean one.ran in
-    let other_run = from_opened (result_line other_which) (header_of other_which) other_image country other.moment other_rows other_r other_opened other_left other_begins
+returns g c = λ country H which other_which at other_at image other_image rows other_rows r other_r old new other_old other_new begins other_begins one other clean other_clean alike agree failed.
+    let run = from_opened (result_line which) (header_of which) image country one.moment rows r old.desk new.desk begins clean one.ran in
+    let other_run = from_opened (result_line other_which) (header_of other_which) other_image country other.moment other_rows other_r other_old.desk other_new.desk other_begins
     other_clean other.ran in
     let list = commands_tried one.moment rows r one.ran in
     let outcomes = outcomes_tried one.moment rows r one.ran in
     let other_list = commands_tried other.moment other_rows other_r other.ran in
     let other_outcomes = outcomes_tried other.moment other_rows other_r other.ran in
-    told_alike country H (fresh_books (over_file.content opened)) (fresh_books (over_file.content other_opened)) list other_list outcomes other_outcomes
+    told_alike country H (fresh_books (over_file.content old.desk)) (fresh_books (over_file.content other_old.desk)) list other_list outcomes other_outcomes
     run.0 other_run.0 run.1 other_run.1 (ap fresh_book alike.2)
     (heard_alike country H list other_list outcomes other_outcomes run.1.one_each other_run.1.one_each agree failed)

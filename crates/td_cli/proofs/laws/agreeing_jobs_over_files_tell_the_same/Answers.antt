@@ -5,9 +5,9 @@ use Rattle.td_cli.proofs.Agreeing.{streams_alike}
 use Rattle.td_cli.proofs.laws.agreeing_jobs_over_files_tell_the_same.Goals as goal
 
 pub returns : goal.returns
-returns g c = λ country H image other_image is_new is_other_new end other_end opened left other_opened other_left reader reader_left writer writer_left clock clock_left other_reader other_reader_left other_writer other_writer_left other_clock other_clock_left begins other_begins one other clean other_clean alike.
-    let rows = over_file.content opened in
-    let other_rows = over_file.content other_opened in
+returns g c = λ country H image other_image is_new is_other_new old new end other_old other_new other_end begins other_begins one other clean other_clean alike.
+    let rows = over_file.content old.desk in
+    let other_rows = over_file.content other_old.desk in
     let served = one.private clean (fresh_books rows) (fresh_tied rows) in
     let other_served = other.private other_clean (fresh_books other_rows) (fresh_tied other_rows) in
     streams_alike country H rows other_rows one.served.run.exchanges other.served.run.exchanges served.0 other_served.0 alike served.1 other_served.1

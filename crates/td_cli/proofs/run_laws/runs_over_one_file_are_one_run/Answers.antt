@@ -8,8 +8,8 @@ use Rattle.td_cli.proofs.Runs.{one_stream, run_of, runs_joined}
 use Rattle.td_cli.proofs.run_laws.runs_over_one_file_are_one_run.Goals as goal
 
 pub returns-clause-piped : goal.returns-clause-piped
-returns-clause-piped g c = λ country is_new image opened left reader reader_left writer writer_left clock clock_left end begins one clean live.
-    run_of is_new image country opened left _ begins (one.clean clean)
+returns-clause-piped g c = λ country is_new image old new end begins one clean live.
+    run_of is_new image country old.desk new.desk _ begins (one.clean clean)
     (λ books tied.
     let served = one.private clean books tied in (
       served.0,
@@ -18,8 +18,8 @@ returns-clause-piped g c = λ country is_new image opened left reader reader_lef
     ))
 
 pub returns-clause-served : goal.returns-clause-served
-returns-clause-served g c = λ country is_new image opened left connections came gone clock clock_left answer begins one clean live.
-    run_of is_new image country opened left _ begins (one.clean clean)
+returns-clause-served g c = λ country is_new image connections old new answer begins one clean live.
+    run_of is_new image country old.desk new.desk _ begins (one.clean clean)
     (λ books tied. let served = one.private clean books tied in (served.0, served.1, served.2 live))
 
 pub returns-clause-joined : goal.returns-clause-joined

@@ -1,5 +1,5 @@
 use Rattle.std.proofs.Common.{arith, refl, []}
-use Rattle.td_http.specs.Serving.{IsHandledBy, IsHeadHandledBy}
+use Rattle.td_http.specs.Connections.{connections_by, desk_server}
 use Rattle.td_http.proofs.ServedConnections.{between, answer_is, serving_more}
 use Rattle.td_http.proofs.Private.{connections_private}
 use Rattle.td_http.proofs.connections.serve_connections.Goals as goal
@@ -13,8 +13,8 @@ loop-preserved g c =
     let source = g.L.Connections in
     let next = c.serve_next.new in
     let served = c.in_ok-serve_next.ensures in
-    serving_more g.L.Reader.Read.remaining g.L.Writer.Write.contents source.gives source.takes g.C.Clock.ticks
-    (IsHandledBy desk.seen) IsHeadHandledBy
+    serving_more (connections_by g.L.Reader.Read.remaining g.L.Writer.Write.contents source.gives source.takes source.refuses)
+    (desk_server g.C.Clock.ticks desk.seen)
     (between c.args.connections.now c.args.clock.now c.args.service.now)
     (between c.loop.connections c.loop.clock c.loop.service) (between next.connections next.clock next.service)
     c.loop.counter served.0 c.loop.invariant served.1
@@ -31,8 +31,8 @@ returns-in_err-serve_next g c =
     let old = between c.args.connections.now c.args.clock.now c.args.service.now in
     let last = between c.loop.connections c.loop.clock c.loop.service in (
       record { all_served = serving.all_served; last = last; were_served = serving.were_served; ended = rw told (omega arith, refused) },
-      rw refused.handler (connections_private g.L.Reader.Read.remaining g.L.Writer.Write.contents source.gives
-          source.takes g.C.Clock.ticks desk.seen
+      rw refused.handler (connections_private (connections_by g.L.Reader.Read.remaining g.L.Writer.Write.contents source.gives source.takes source.refuses)
+          g.C.Clock.ticks desk.seen
           serving.all_served old last serving.were_served),
     )
 
@@ -47,7 +47,7 @@ returns g c =
     let old = between c.args.connections.now c.args.clock.now c.args.service.now in
     let last = between c.loop.connections c.loop.clock c.loop.service in (
       record { all_served = serving.all_served; last = last; were_served = serving.were_served; ended = (omega arith, refl {a = last}) },
-      connections_private g.L.Reader.Read.remaining g.L.Writer.Write.contents source.gives source.takes
+      connections_private (connections_by g.L.Reader.Read.remaining g.L.Writer.Write.contents source.gives source.takes source.refuses)
           g.C.Clock.ticks desk.seen
           serving.all_served old last serving.were_served,
     )

@@ -1,6 +1,5 @@
 use Rattle.std.proofs.Common.{[], None, arith, refl}
-use Rattle.td_http.specs.Serving.{IsHandledBy, IsHeadHandledBy}
-use Rattle.td_http.specs.Connections.{beside}
+use Rattle.td_http.specs.Connections.{beside, connections_by, desk_server, sockets}
 use Rattle.td_http.specs.declared.sides.ReplySide.{ReplySide}
 use Rattle.td_http.specs.declared.sides.RequestSide.{RequestSide}
 use Rattle.td_http.proofs.ServedConnections.{between}
@@ -13,27 +12,27 @@ returns-then-connections-eq0 g c =
     let none = c.if-connections-eq0.true in
     let old = beside c.args.clock.now c.args.service.now in (
       record { all_served = []; last = old; were_served = refl; ended = (omega arith, refl {a = old}) },
-      connections_private {R = RequestSide} {W = ReplySide} (λ _. None) (λ _. None) (λ _ _ _ _. Unit {0}) (λ _ _ _ _. Unit {0}) g.C.Clock.ticks g.D.Desk.seen [] old old (refl {a = old}),
+      connections_private sockets g.C.Clock.ticks g.D.Desk.seen [] old old (refl {a = old}),
     )
 
 pub returns-in_err-try_clone : goal.returns-in_err-try_clone
 returns-in_err-try_clone g c =
     let some = c.if-connections-eq0.false in
     let old = beside c.args.clock.now c.args.service.now in
-    let none = none_came (λ _. None) (λ _. None) g.C.Clock.ticks (IsHandledBy g.D.Desk.seen) IsHeadHandledBy c.args.clock.now c.args.service.now
+    let none = none_came {R = RequestSide} {W = ReplySide} (λ _. None) (λ _. None) (desk_server g.C.Clock.ticks g.D.Desk.seen) c.args.clock.now c.args.service.now
     c.args.connections c.from_residual.result (omega arith) c.from_residual.ensures.0 in (
       none.0,
-      rw none.1 (connections_private {R = RequestSide} {W = ReplySide} (λ _. None) (λ _. None) (λ _ _ _ _. Unit {0}) (λ _ _ _ _. Unit {0}) g.C.Clock.ticks g.D.Desk.seen [] old old (refl {a = old})),
+      rw none.1 (connections_private sockets g.C.Clock.ticks g.D.Desk.seen [] old old (refl {a = old})),
     )
 
 pub returns-in_err-incoming : goal.returns-in_err-incoming
 returns-in_err-incoming g c =
     let some = c.if-connections-eq0.false in
     let old = beside c.args.clock.now c.args.service.now in
-    let none = none_came (λ _. None) (λ _. None) g.C.Clock.ticks (IsHandledBy g.D.Desk.seen) IsHeadHandledBy c.args.clock.now c.args.service.now
+    let none = none_came {R = RequestSide} {W = ReplySide} (λ _. None) (λ _. None) (desk_server g.C.Clock.ticks g.D.Desk.seen) c.args.clock.now c.args.service.now
     c.args.connections c.from_residual-in_err-incoming.result (omega arith) c.from_residual-in_err-incoming.ensures.0 in (
       none.0,
-      rw none.1 (connections_private {R = RequestSide} {W = ReplySide} (λ _. None) (λ _. None) (λ _ _ _ _. Unit {0}) (λ _ _ _ _. Unit {0}) g.C.Clock.ticks g.D.Desk.seen [] old old (refl {a = old})),
+      rw none.1 (connections_private sockets g.C.Clock.ticks g.D.Desk.seen [] old old (refl {a = old})),
     )
 
 pub returns : goal.returns
@@ -46,8 +45,8 @@ returns g c =
       record {
         all_served = served.all_served;
         last = beside served.last.clock served.last.handler;
-        were_served = were_served_anyhow (λ _. None) (λ _. None) (λ _ _ _ _. Unit {0}) (λ _ _ _ _. Unit {0})
-            g.C.Clock.ticks (IsHandledBy desk.seen) IsHeadHandledBy
+        were_served = were_served_anyhow (connections_by (λ _. None) (λ _. None) (λ _ _ _ _. Unit {0}) (λ _ _ _ _. Unit {0}) (λ _ _ _. Unit {0}))
+            (desk_server g.C.Clock.ticks desk.seen)
             served.all_served old served.last served.were_served;
         ended = ended_anyhow (λ _ _ _. Unit {0}) served.all_served served.last new c.args.connections call.result
             served.ended;

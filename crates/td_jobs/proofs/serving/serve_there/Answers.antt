@@ -3,7 +3,7 @@ use Rattle.td_jobs.proofs.serving.serve_there.Goals as goal
 
 pub returns-then-not-write_whole : goal.returns-then-not-write_whole
 returns-then-not-write_whole g c = λ ready lines.
-    inl (rw (← lines.0, ← c.as_bytes.ensures.value) (c.write_whole.ensures.cut c.if-not-write_whole.true), refl, refl, refl)
+    inl (rw (← lines.0, ← c.as_bytes.ensures.value) (c.write_whole.ensures.cut c.if-not-write_whole.true), refl)
 
 pub returns-in-Err : goal.returns-in-Err
 returns-in-Err g c = λ ready lines.

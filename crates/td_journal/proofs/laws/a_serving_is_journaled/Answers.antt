@@ -3,4 +3,4 @@ use Rattle.td_journal.proofs.laws.a_serving_is_journaled.Goals as goal
 
 pub returns : goal.returns
 returns g c =
-    serving_grown g.F.Disk g.D.Desk.seen _ _ g.L.Connections.gives g.L.Connections.takes g.C.Clock.ticks g.L.Connections.refuses
+    serving_grown g.F.Disk g.D.Desk.seen _ g.C.Clock.ticks

@@ -1,7 +1,7 @@
 use Rattle.std.proofs.Common.{◌≡◌}
 use Rattle.std.specs.Prelude.{option_map, string_bytes}
 use Rattle.td_jobs.specs.Batched.{HasDoneRows, commands_of, kind_of}
-use Rattle.td_jobs.specs.Jobs.{IsUntouched}
+use Rattle.td_jobs.specs.Jobs.{IsUntouched, with_machine}
 use Rattle.td_cli.specs.World.{world_of}
 use Rattle.td_cli.proofs.LeftWithJournal.{left_later, with_parted}
 use Rattle.td_cli.proofs.ToldFrom.{batch_from}
@@ -15,12 +15,13 @@ returns-clause-unread g c =
     let begun = end.new.self in
     let at = with_parted
     (λ D view opened left r. (begun.input.now ≡ old.input.now) × (begun.out.now ≡ old.out.now)
-    × HasDoneRows view opened left g.M.Clock.ticks c.args.office.at (kind_of rows) (commands_of rows) old.machine.now begun.machine.now r)
-    (λ D view opened left r. HasDoneRows view opened left g.M.Clock.ticks c.args.office.at (kind_of rows) (commands_of rows) old.machine.now begun.machine.now r)
+    × HasDoneRows view g.M.Clock.ticks c.args.office.at (kind_of rows) (commands_of rows) (with_machine opened old.machine.now) (with_machine left begun.machine.now) r)
+    (λ D view opened left r. HasDoneRows view g.M.Clock.ticks c.args.office.at (kind_of rows) (commands_of rows) (with_machine opened old.machine.now) (with_machine left begun.machine.now) r)
     ((begun.input.now ≡ old.input.now) × (begun.out.now ≡ old.out.now))
     (IsUntouched old.input.now begun.input.now old.out.now begun.out.now old.machine.now begun.machine.now) (begun.machine.now ≡ old.machine.now)
     (λ D view opened left r is. ((is.0, is.1), is.2)) (λ is. ((is.0, is.1), is.2))
-    _ c.args.office.country (world_of _ old) (world_of _ begun) c.args.records.now (option_map string_bytes c.args.journal.now) end.result end.ensures.done in
+    _ (record { office = c.args.office; records = c.args.records.now; journal = option_map string_bytes c.args.journal.now })
+    (world_of _ old) (world_of _ begun) end.result end.ensures.done in
     let kept = c.tell_batch.ensures.kept in
     rw kept.0.0 at.0.0
 
@@ -32,16 +33,17 @@ returns-clause-done g c =
     let begun = end.new.self in
     let at = with_parted
     (λ D view opened left r. (begun.input.now ≡ old.input.now) × (begun.out.now ≡ old.out.now)
-    × HasDoneRows view opened left g.M.Clock.ticks c.args.office.at (kind_of rows) (commands_of rows) old.machine.now begun.machine.now r)
-    (λ D view opened left r. HasDoneRows view opened left g.M.Clock.ticks c.args.office.at (kind_of rows) (commands_of rows) old.machine.now begun.machine.now r)
+    × HasDoneRows view g.M.Clock.ticks c.args.office.at (kind_of rows) (commands_of rows) (with_machine opened old.machine.now) (with_machine left begun.machine.now) r)
+    (λ D view opened left r. HasDoneRows view g.M.Clock.ticks c.args.office.at (kind_of rows) (commands_of rows) (with_machine opened old.machine.now) (with_machine left begun.machine.now) r)
     ((begun.input.now ≡ old.input.now) × (begun.out.now ≡ old.out.now))
     (IsUntouched old.input.now begun.input.now old.out.now begun.out.now old.machine.now begun.machine.now) (begun.machine.now ≡ old.machine.now)
     (λ D view opened left r is. ((is.0, is.1), is.2)) (λ is. ((is.0, is.1), is.2))
-    _ c.args.office.country (world_of _ old) (world_of _ begun) c.args.records.now (option_map string_bytes c.args.journal.now) end.result end.ensures.done in
+    _ (record { office = c.args.office; records = c.args.records.now; journal = option_map string_bytes c.args.journal.now })
+    (world_of _ old) (world_of _ begun) end.result end.ensures.done in
     let kept = c.tell_batch.ensures.kept in
     let new = c.tell_batch.new.self in (
       end.result,
-      rw kept.0.1 (left_later _ c.args.office.country (world_of _ old) (world_of _ begun) _ kept.1 kept.0.2
-          _ _ c.args.records.now (option_map string_bytes c.args.journal.now) end.result at.1),
+      rw kept.0.1 (left_later _ (record { office = c.args.office; records = c.args.records.now; journal = option_map string_bytes c.args.journal.now })
+          (world_of _ old) (world_of _ begun) _ kept.1 kept.0.2 _ _ end.result at.1),
       batch_from _ (world_of _ old) (world_of _ begun) (world_of _ new) at.0.1 end.ensures.untold _ end.result c.tell_batch.ensures.told,
     )

@@ -8,7 +8,8 @@ pub returns-clause-done : goal.returns-clause-done
 returns-clause-done g c =
     let end = c.with_journal-end in (
       end.result,
-      left_later _ c.args.office.country (world_of _ c.args.self.now) (world_of _ end.new.self) _ refl refl
-          _ _ c.args.records.now (option_map string_bytes c.args.journal.now) end.result end.ensures.done,
+      left_later _ (record { office = c.args.office; records = c.args.records.now; journal = option_map string_bytes c.args.journal.now })
+          (world_of _ c.args.self.now) (world_of _ end.new.self) _ refl refl
+          _ _ end.result end.ensures.done,
       rw (end.ensures.untold, c.stream_cause.ensures) at c.exit.ensures,
     )

@@ -9,8 +9,9 @@ returns-then-first-clause-done g c =
     let end = c.with_journal-end in
     rw c.if-first.true (
       end.result,
-      left_later _ c.args.office.country (world_of _ c.args.self.now) (world_of _ end.new.self) _ refl refl
-          _ _ c.args.records.now (option_map string_bytes c.args.journal.now) end.result end.ensures.done,
+      left_later _ (record { office = c.args.office; records = c.args.records.now; journal = option_map string_bytes c.args.journal.now })
+          (world_of _ c.args.self.now) (world_of _ end.new.self) _ refl refl
+          _ _ end.result end.ensures.done,
       rw (end.ensures.untold, c.standby_cause.ensures) at c.exit.ensures,
     )
 
@@ -19,7 +20,8 @@ returns-else-first-clause-done g c =
     let end = c.with_journal-end-else-first in
     rw c.if-first.false (
       end.result,
-      left_later _ c.args.office.country (world_of _ c.args.self.now) (world_of _ end.new.self) _ refl refl
-          _ _ c.args.records.now (option_map string_bytes c.args.journal.now) end.result end.ensures.done,
+      left_later _ (record { office = c.args.office; records = c.args.records.now; journal = option_map string_bytes c.args.journal.now })
+          (world_of _ c.args.self.now) (world_of _ end.new.self) _ refl refl
+          _ _ end.result end.ensures.done,
       rw (end.ensures.untold, c.serving_cause.ensures) at c.exit-else-first.ensures,
     )
