@@ -1,8 +1,8 @@
 -- Guarantees of lines, whose rows are read in ranges of serials: their GRNs, their terms and the amounts in use.
-use Rattle.std.proofs.Common.{◌≡◌, ◌∙◌, ℕ, ◌≤◌, Bool, true, false, List, [], ◌∷◌, ◌++◌, filter, length, map, nat_le, nat_lt, Option, Some, refl, sym, ap, subst, arith, IsPermutation}
-use Rattle.std.specs.Prelude.{◌==◌, ◌&&◌, IfSome, filter_map, find, unwrap_or}
+use Rattle.std.proofs.Common.{◌≡◌, ◌≢◌, ◌∙◌, ℕ, ◌<◌, ◌≤◌, Bool, true, false, cond, List, [], ◌∷◌, ◌++◌, filter, length, map, nat_le, nat_lt, None, Option, Some, refl, sym, ap, subst, arith, IsPermutation}
+use Rattle.std.specs.Prelude.{◌==◌, ◌&&◌, IfSome, filter_map, find, if◌then◌else◌, unwrap_or}
 use Rattle.std.specs.List.{AllByRecursion}
-use Rattle.std.specs.Option.{option_map}
+use Rattle.std.specs.Option.{is_some, option_map}
 use Rattle.std.specs.Str.{bytes_eq}
 use Rattle.std.proofs.lemmas.Bool.Decides.{nat_tests}
 use Rattle.std.proofs.lemmas.Option.{same_Some}
@@ -38,6 +38,7 @@ use Rattle.td_store_rows.specs.KeptTable.{AreKeptBySerial, kept_row_of}
 use Rattle.td_store_rows.specs.LineTable.{AreByNumber, line_row_of as row_of_line}
 use Rattle.td_store_rows.specs.MovementTable.{IsTheMovement, has_mrn, movement_row_of as row_of_movement}
 use Rattle.td_store_rows.specs.Places.{is_within}
+use Rattle.td_store_rows.specs.Ranges.{rows_between}
 use Rattle.td_store_rows.specs.StoreReads.{KeepsUse, OnlyReadNewest}
 use Rattle.td_store_rows.specs.StoreTables.{HoldsContent, tables_in}
 use Rattle.td_store_rows.specs.declared.guarantees.stored.KeptGuarantee.{KeptGuarantee}
@@ -46,7 +47,7 @@ use Rattle.td_store_rows.specs.declared.movements.stored.StoredMovement.{StoredM
 use Rattle.td_store_rows.proofs.StoreReads.{newest_keeps, newest_more_lines}
 use Rattle.td_store_rows.proofs.Turned.{plain_rows}
 use Rattle.td_store_load.specs.Loaded.{IsOfTables, line_of}
-use Rattle.td_store_load.specs.Needed.{AreKeptIn, AreTermsOf, IsKeptOf, kept_by, terms_in}
+use Rattle.td_store_load.specs.Needed.{AreKeptIn, AreTermsOf, HasKeptOf, IsKeptOf, kept_by, terms_in}
 use Rattle.td_store_load.proofs.Found.{filtered}
 use Rattle.td_store_load.proofs.InRanges.{kept_apart, kept_range}
 use Rattle.td_store_load.proofs.Reading.{held_after, said_before}
@@ -168,6 +169,40 @@ range_kept H low end a found order c holds =
     ∙ all_is_first (of_key place k.serial mine) (kept_row_of k)
     (sym (find_first (λ r. place r == k.serial) mine) ∙ sym (found_in_order place k.serial mine) ∙ is) (apart k.serial)))
     found (all_from_map Found kept_row_of found there)
+
+-- a serial that no row of a range has, and that stands in it, is no guarantee's of the holder's
+unfound : (n : ℕ) (found : List KeptGuarantee) → find (λ k. k.serial == n) found ≡ None → row_at place n (map kept_row_of found) ≡ None
+unfound n [] none = refl
+unfound n (k ∷ found) none = by_test (k.serial == n) none (unfound n found)
+  where
+    by_test : (b : Bool) → (if◌then◌else◌ {A = Option KeptGuarantee} b (Some k) (find (λ k. k.serial == n) found)) ≡ None
+        → (find (λ k. k.serial == n) found ≡ None → row_at place n (map kept_row_of found) ≡ None)
+        → (if◌then◌else◌ {A = Option (Keyed Kept)} b (Some (kept_row_of k)) (row_at place n (map kept_row_of found))) ≡ None
+    by_test true none later = cc
+    by_test false none later = later none
+
+outside : (n end : ℕ) → n < end → (rows : List (Keyed Kept)) → row_at place n (rows_between n end rows) ≡ None → row_at place n rows ≡ None
+outside n end within [] none = refl
+outside n end within (r ∷ rows) none = by_place (place r == n) refl (nat_le n (place r) && nat_lt (place r) end) refl none (outside n end within rows)
+  where
+    by_place : (b : Bool) → (place r == n) ≡ b → (t : Bool) → (nat_le n (place r) && nat_lt (place r) end) ≡ t
+        → row_at place n (cond t (r ∷ rows_between n end rows) (rows_between n end rows)) ≡ None
+        → (row_at place n (rows_between n end rows) ≡ None → row_at place n rows ≡ None)
+        → (if◌then◌else◌ {A = Option (Keyed Kept)} b (Some r) (row_at place n rows)) ≡ None
+    by_place true is true inside none later = let some = (rw is at none) in cc
+    by_place true is false inside none later = absurd (grind (arith, nat_tests, is, inside, within))
+    by_place false is true inside none later = later (rw is at none)
+    by_place false is false inside none later = later none
+
+pub range_has : (H n end : ℕ) (a : State) (found : List KeptGuarantee) → AreKeptBySerial (is_within H n end) a found → n < end
+    → (c : Content) (holds : HoldsContent c a) → HasKeptOf H n c holds found
+range_has H n end a found order within c holds none =
+    outside n end within (kept_by H (tables_in holds.trees.layout a.now.trees)) (ap (row_at place n) (sym (kept_range H n end a found order c holds)) ∙ unfound n found none)
+
+-- what is found is among them
+pub found_is_some : {X Y : Type 0} (f : X → Y) (found : Option X) (o : Option Y) → option_map f found ≡ o → is_some found ≡ true → o ≢ None
+found_is_some f None o same some = cc
+found_is_some f (Some x) o same some = λ none. cc
 
 -- what a content's rows say is said after calls that only read, and was before them
 pub kept_after : (a b : State) (H : ℕ) (kept : List KeptGuarantee) (read : OnlyReadNewest a b) (c : Content) (holds : HoldsContent c a)

@@ -1,6 +1,7 @@
 -- What a verdict needs of a holder's rows, as the tables of a store's file say it.
-use Rattle.std.specs.Prelude.{◌≡◌, ℕ, List, Option, Some, filter_map, option_map}
+use Rattle.std.specs.Prelude.{◌≡◌, ◌==◌, ℕ, List, None, Option, Some, filter_map, find, option_map}
 use Rattle.std.specs.List.{AllByRecursion}
+use Rattle.keyed_rows.specs.Rows.{row_at}
 use Rattle.sqlite.specs.State.{State}
 use Rattle.td_guarantee.specs.declared.guarantee.Guarantee.{Guarantee}
 use Rattle.td_guarantee.specs.Terms.{without_codes}
@@ -41,6 +42,11 @@ IsKeptOf H t account k =
 -- each of these rows does so, where the store holds that content
 abbrev pub AreKeptIn : ℕ → (c : Content) {s : State} → HoldsContent c s → List KeptGuarantee → Type 0
 AreKeptIn H c {s} holds kept = AllByRecursion (IsKeptOf H (tables_in holds.trees.layout s.now.trees) (account_in H c)) kept
+
+-- if one of a holder's guarantees has that serial, one of these rows has it
+abbrev pub HasKeptOf : ℕ → ℕ → (c : Content) {s : State} → HoldsContent c s → List KeptGuarantee → Type 0
+HasKeptOf H n c {s} holds kept =
+    find (λ k. k.serial == n) kept ≡ None → row_at place n (kept_by H (tables_in holds.trees.layout s.now.trees)) ≡ None
 
 -- where the store holds a content, these are the terms of the guarantees of a holder's that lines name, as far as they are there
 abbrev pub AreTermsOf : ℕ → State → List Line → List (Guarantee × ℕ) → Type 0

@@ -1,7 +1,7 @@
 //! What a release needs of a movement: the movement with its lines, and the terms of its lines' guarantees, which are read in ranges of
 //! serials. `DatabaseCorrupt`: a row is no such row, there are several where there can be one, one doesn't stand where it was asked
 //! for, or the guarantee of a line isn't there; `OutOfMemory`: want of memory; any other error is the database's own.
-ghost use Rattle.std.specs.Prelude.{◌≡◌, ◌==◌, ◌+◌, ◌<◌, ◌≤◌, map, find, IfOk, IfSome, is_ok};
+ghost use Rattle.std.specs.Prelude.{◌≡◌, ◌==◌, ◌+◌, ◌-◌, ◌^◌, ◌<◌, ◌≤◌, map, find, IfOk, IfSome, is_ok};
 ghost use Rattle.std.specs.Option.{option_map};
 ghost use Rattle.sqlite.specs.Held.{state};
 ghost use Rattle.sqlite.specs.State.{HasCleanDisk};
@@ -15,7 +15,7 @@ ghost use Rattle.td_store_rows.specs.MovementTable.{movement_row_of};
 ghost use Rattle.td_store_rows.specs.StoreReads.{ReadsNewest};
 ghost use Rattle.td_store_rows.specs.StoreTables.{HoldsContent};
 ghost use Rattle.td_store_load.specs.Loaded.{IsOfContent, IsOfTables, line_of};
-ghost use Rattle.td_store_load.specs.Needed.{AreKeptIn, AreTermsOf};
+ghost use Rattle.td_store_load.specs.Needed.{AreKeptIn, AreTermsOf, HasKeptOf};
 
 use sqlite::{Error, ErrorCode, Transaction};
 use sqlite_trees::store::Alter;
@@ -34,9 +34,9 @@ const NEAR: u32 = 4;
 const AT_ONCE: u32 = 64;
 
 // The serial behind the range to be read: it begins at `first`, and goes on over the serials of rows as long as they stand near each
-// other. `None`: there is no serial behind it.
-fn end_of_run(first: u32, rows: &[StoredLine]) -> Option<u32>
-    ensures { IfSome result (λ end. (first < end) × (end ≤ first + AT_ONCE)) }
+// other.
+fn end_of_run(first: u32, rows: &[StoredLine]) -> u32
+    ensures { (first < 2 ^ 32 - 1 → first < result) × (result ≤ first + AT_ONCE) }
 {
     let mut last = first;
     'rows: for row in rows {
@@ -46,7 +46,7 @@ fn end_of_run(first: u32, rows: &[StoredLine]) -> Option<u32>
         }
         last = serial;
     }
-    last.checked_add(1)
+    last.saturating_add(1)
 }
 
 // The first of guarantees with a serial.
@@ -71,15 +71,15 @@ fn kept_near<S: Alter>(
     ensures kept { HasCleanDisk (state S.Store tx.new.conn.now)
         → IfOk result (λ kept. (c : Content) (holds : HoldsContent c (state S.Store tx.old.conn.now))
         → AreKeptIn holder c holds near.items → AreKeptIn holder c holds kept.items) }
+    ensures found { HasCleanDisk (state S.Store tx.new.conn.now) → serial < 2 ^ 32 - 1
+        → IfOk result (λ kept. (c : Content) (holds : HoldsContent c (state S.Store tx.old.conn.now))
+        → HasKeptOf holder serial c holds kept.items) }
     ensures reads { ReadsNewest (is_ok result) (state S.Store tx.old.conn.now) (state S.Store tx.new.conn.now) }
 {
     if found_in(&near, serial).is_some() {
         return Ok(near);
     }
-    let Some(end) = end_of_run(serial, rows) else {
-        return Err(Error::SqliteFailure(ErrorCode::DatabaseCorrupt));
-    };
-    kept_within(alloc, tx, holder, serial, end)
+    kept_within(alloc, tx, holder, serial, end_of_run(serial, rows))
 }
 
 // The line in a row, on the guarantee that was found for it.
