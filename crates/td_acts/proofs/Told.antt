@@ -61,11 +61,6 @@ pub on_whole : (unregistered : Refusal) (holder : Option HolderRow) (t : ℕ) (f
     → on_movement unregistered holder t found to said_of ≡ on_movement unregistered holder t kept to said_of
 on_whole unregistered holder t found kept to said_of is = ap (λ f. on_movement unregistered holder t f to said_of) is
 
--- a list shows no lines
-pub listed_alike : (ms : List Movement) → map listed (map without_lines ms) ≡ map listed ms
-listed_alike [] = refl
-listed_alike (m ∷ ms) = ap (λ l. listed m ∷ l) (listed_alike ms)
-
 -- a refusal of what was found of a movement is one of the movement
 pub told_unmoving : (account : Account) (holder : Option HolderRow) (found : Option Movement) (t : ℕ) (command : Command) (unregistered : Refusal) (mrn : List ℕ) (to : Move) (said_of : Movement → Said) (why : Refusal) (v : Verdict)
     → holder ≡ account.holder
@@ -170,8 +165,9 @@ told_shown account holder found t H grn v same_holder same_found said change =
 
 -- what else is loaded of the same rows is loaded as they are
 pub loaded_again : (account : Account) (need : Need) (loaded copy : Loaded) → copy.country ≡ loaded.country → copy.holder ≡ loaded.holder
-    → copy.movements.items ≡ loaded.movements.items → copy.guarantees.items ≡ loaded.guarantees.items → IsLoaded account need loaded → IsLoaded account need copy
-loaded_again account need loaded copy country holder movements guarantees is =
+    → copy.movements.items ≡ loaded.movements.items → copy.listed.items ≡ loaded.listed.items → copy.guarantees.items ≡ loaded.guarantees.items
+    → IsLoaded account need loaded → IsLoaded account need copy
+loaded_again account need loaded copy country holder movements listed guarantees is =
     record { country = country ∙ is.country; holder = holder ∙ is.holder; things = looked_up need is.things }
   where
     looked_up : (n : Need) → IsLookedUp account n loaded → IsLookedUp account n copy
@@ -180,6 +176,6 @@ loaded_again account need loaded copy country holder movements guarantees is =
     looked_up (movement mrn) things = rw movements things
     looked_up (status mrn) things = rw movements things
     looked_up (release mrn) things = rw (movements, guarantees) things
-    looked_up all_movements things = rw movements things
+    looked_up all_movements things = rw listed things
     looked_up (guarantee grn) things = rw guarantees things
     looked_up all_guarantees things = rw guarantees things

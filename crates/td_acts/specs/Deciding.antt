@@ -24,7 +24,7 @@ use Rattle.td_model.specs.Account.{Account, entry_in, guarantee_by_grn, movement
 use Rattle.td_commands.specs.Commands.{Need, nothing, lodging, movement, status, release, all_movements, guarantee, all_guarantees, need_of}
 use Rattle.td_commands.specs.Lines.{line_of}
 use Rattle.td_model.specs.Effects.{year2_at, end_after, judged, new_holder_row, new_guarantee, new_movement}
-use Rattle.td_model.specs.Table.{said, said_at}
+use Rattle.td_model.specs.Table.{listed, said, said_at}
 use Rattle.td_model.specs.Machine.{is_accepted_at}
 
 -- a guarantee that was loaded, and the amount in use on it where the command asks for that
@@ -51,7 +51,7 @@ IsLookedUp account (release mrn) loaded =
     (movement_by_mrn mrn loaded.movements.items ≡ movement_by_mrn mrn account.movements)
     × IfSome (movement_by_mrn mrn account.movements) (λ m.
     AllByRecursion (λ l. entry_by_grn l.grn loaded.guarantees.items ≡ option_map terms_alone (entry_in account l.grn)) m.lines)
-IsLookedUp account all_movements loaded = loaded.movements.items ≡ map without_lines account.movements
+IsLookedUp account all_movements loaded = loaded.listed.items ≡ map listed account.movements
 IsLookedUp account (guarantee grn) loaded = entry_by_grn grn loaded.guarantees.items ≡ entry_in account grn
 IsLookedUp account all_guarantees loaded =
     loaded.guarantees.items ≡ map (λ g. (g, used_on g.grn account.movements)) account.guarantees

@@ -3,7 +3,7 @@ ghost use Rattle.std.specs.Prelude.{◌≡◌, IfOk};
 
 use std::alloc::{AllocError, Global};
 use td_base::{AccessCode, Cents, Country, Cover, Day, Eori, Grn, HolderNo, Moment, Mrn, OfficeNo};
-use td_commands::{Answer, Refusal, Said};
+use td_commands::{Answer, ListedMovement, Refusal, Said};
 use td_guarantee::Guarantee;
 use td_model::HolderRow;
 use td_movement::{Movement, State};
@@ -14,8 +14,10 @@ pub struct Loaded {
     pub country: Country,
     pub holder: Option<HolderRow>,
     /// For a declaration the movement with its LRN, for a move and a view the one with its MRN, if there is
-    /// one; for a view of all movements all. A list and moves, but for a release, have them without lines.
+    /// one. Moves, but for a release, have it without lines.
     pub movements: Vec<Movement>,
+    /// For a view of all movements all of them, as a list shows them.
+    pub listed: Vec<ListedMovement>,
     /// Those guarantees that the command or the movement names, or all, and the amounts in use on them, which
     /// a declaration doesn't ask for. A release has them without their codes.
     pub guarantees: Vec<(Guarantee, Cents)>,
@@ -34,6 +36,7 @@ impl Loaded {
             country,
             holder: None,
             movements: Vec::new(alloc),
+            listed: Vec::new(alloc),
             guarantees: Vec::new(alloc),
         }
     }
@@ -43,14 +46,17 @@ impl Loaded {
         ensures country { IfOk result (λ copy. copy.country ≡ self.now.country) }
         ensures holder { IfOk result (λ copy. copy.holder ≡ self.now.holder) }
         ensures movements { IfOk result (λ copy. copy.movements.items ≡ self.now.movements.items) }
+        ensures listed { IfOk result (λ copy. copy.listed.items ≡ self.now.listed.items) }
         ensures guarantees { IfOk result (λ copy. copy.guarantees.items ≡ self.now.guarantees.items) }
     {
         let movements = copy_movements(alloc, &self.movements)?;
+        let listed = self.listed.to_vec(alloc)?;
         let guarantees = copy_entries(alloc, &self.guarantees)?;
         Ok(Loaded {
             country: self.country,
             holder: self.holder,
             movements,
+            listed,
             guarantees,
         })
     }

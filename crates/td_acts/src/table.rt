@@ -10,8 +10,7 @@ use crate::rows::{Change, Loaded, Verdict};
 use crate::serials::next_grn;
 use crate::terms::{add_code, amend, remove_code, revoke};
 use crate::views::{
-    holder_answer, list_movements, see_guarantee, see_guarantees, see_holder, see_movement,
-    see_movements,
+    holder_answer, see_guarantee, see_guarantees, see_holder, see_movement, see_movements,
 };
 use std::alloc::{AllocError, Global};
 use std::mem::replace;
@@ -36,7 +35,7 @@ pub fn verdict(
 
 /// The verdict on a command at a number of seconds since 1970, over what was loaded of its owner's rows.
 /// Where that is just what the verdict needs of the owner's account, it is the table's; else it is only
-/// some verdict. The movement or the guarantees that a view shows are taken out of what was loaded, and not copied:
+/// some verdict. The movements or the guarantees that a view shows are taken out of what was loaded, and not copied:
 /// it is of no use for another verdict. `AllocError`: want of memory.
 // Inlined, the verdict is made where the caller keeps it, and not copied there.
 #[inline(always)]
@@ -117,7 +116,7 @@ fn decide_at(
             see_movement(loaded.holder, found)
         }
         Command::SeeMovements { .. } => {
-            let items = list_movements(alloc, &loaded.movements)?;
+            let items = replace(&mut loaded.listed, Vec::new(alloc));
             see_movements(loaded.holder, items)
         }
         Command::SeeGuarantee { grn, .. } => {

@@ -1,10 +1,9 @@
 //! Views: what they show, and nothing is written for them. They take what they show, and know not where it comes
 //! from.
-ghost use Rattle.std.specs.Prelude.{◌≡◌, IfOk, map};
-ghost use Rattle.td_model.specs.Table.{listed, or_refuse};
+ghost use Rattle.std.specs.Prelude.{◌≡◌};
+ghost use Rattle.td_model.specs.Table.{or_refuse};
 
 use crate::rows::{Change, Verdict};
-use std::alloc::{AllocError, Global};
 use td_base::Cents;
 use td_commands::{Answer, ListedGuarantees, ListedMovement, ListedMovements, Refusal, Said};
 use td_guarantee::Guarantee;
@@ -49,24 +48,6 @@ pub fn see_movements(holder: Option<HolderRow>, items: Vec<ListedMovement>) -> V
         return Verdict::refused(Refusal::NoHolder);
     }
     Verdict::shown(Answer::Movements(ListedMovements::new(items)))
-}
-
-/// Movements as a list shows them. `AllocError`: want of memory.
-pub fn list_movements(
-    alloc: Global,
-    movements: &[Movement],
-) -> Result<Vec<ListedMovement>, AllocError>
-    ensures { IfOk result (λ items. items.items ≡ map listed movements.now) }
-{
-    let items = movements
-        .iter()
-        .map(|movement| ListedMovement {
-            lrn: movement.lrn,
-            mrn: movement.mrn,
-            state: movement.state,
-        })
-        .collect(alloc)?;
-    Ok(items)
 }
 
 /// The verdict on a view of a guarantee, where this is the holder's row, and this the guarantee with the amount in

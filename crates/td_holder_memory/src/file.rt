@@ -10,7 +10,7 @@ ghost use Rattle.td_model.specs.Sound.{IsCovered};
 use crate::counted_rows::CountedRows;
 use crate::guarantee_rows::GuaranteeRows;
 use crate::lookups::{
-    all_entries, copy_of_found, entries_by_grn, guarantees_of, release_of, row_of_found, rows_of,
+    all_entries, copy_of_found, entries_by_grn, guarantees_of, list_of, release_of, row_of_found,
 };
 use keyed_rows::Keyed;
 use std::alloc::{AllocError, Global};
@@ -110,6 +110,7 @@ impl HolderFile {
         ensures { AllByRecursion (IsCovered self.now.movements) self.now.guarantees
             → IfOk result (IsLoaded (account_with country (Some self.now)) (need_said needs.now)) }
     {
+        let holder = Some(self.row);
         let (movements, guarantees) = match needs {
             Needs::Nothing => (Vec::new(alloc), Vec::new(alloc)),
             Needs::Lodging(lrn, lines) => (
@@ -125,7 +126,16 @@ impl HolderFile {
                 Vec::new(alloc),
             ),
             Needs::Release(mrn) => release_of(alloc, &self.guarantees, &self.movements, mrn)?,
-            Needs::AllMovements => (rows_of(alloc, self.movements.as_slice())?, Vec::new(alloc)),
+            Needs::AllMovements => {
+                let listed = list_of(alloc, self.movements.as_slice())?;
+                return Ok(Loaded {
+                    country,
+                    holder,
+                    movements: Vec::new(alloc),
+                    listed,
+                    guarantees: Vec::new(alloc),
+                });
+            }
             Needs::Guarantee(grn) => (
                 Vec::new(alloc),
                 entries_by_grn(alloc, &self.guarantees, &self.movements, grn)?,
@@ -137,8 +147,9 @@ impl HolderFile {
         };
         Ok(Loaded {
             country,
-            holder: Some(self.row),
+            holder,
             movements,
+            listed: Vec::new(alloc),
             guarantees,
         })
     }

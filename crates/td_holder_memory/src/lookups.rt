@@ -6,11 +6,12 @@ ghost use Rattle.td_guarantee.specs.Usage.{used_on};
 ghost use Rattle.td_movement.specs.Movements.{without_lines};
 ghost use Rattle.td_model.specs.Account.{guarantee_by_grn, movement_by_mrn};
 ghost use Rattle.td_model.specs.Sound.{IsCovered};
+ghost use Rattle.td_model.specs.Table.{listed};
 
 use crate::counted_rows::CountedRows;
 use crate::guarantee_rows::GuaranteeRows;
 use std::alloc::{AllocError, Global};
-use td_acts::Lines;
+use td_acts::{Lines, ListedMovement};
 use td_base::{Cents, Grn, Mrn};
 use td_guarantee::Guarantee;
 use td_movement::{Line, Movement};
@@ -130,15 +131,22 @@ fn entries_of(
     Ok(found)
 }
 
-/// Movements without their lines. `AllocError`: want of memory.
-pub(crate) fn rows_of(alloc: Global, movements: &[Movement]) -> Result<Vec<Movement>, AllocError>
-    ensures { IfOk result (λ rows. rows.items ≡ map without_lines movements.now) }
+/// Movements as a list shows them. `AllocError`: want of memory.
+pub(crate) fn list_of(
+    alloc: Global,
+    movements: &[Movement],
+) -> Result<Vec<ListedMovement>, AllocError>
+    ensures { IfOk result (λ items. items.items ≡ map listed movements.now) }
 {
-    let rows = movements
+    let items = movements
         .iter()
-        .map(|movement| movement.without_lines(alloc))
+        .map(|movement| ListedMovement {
+            lrn: movement.lrn,
+            mrn: movement.mrn,
+            state: movement.state,
+        })
         .collect(alloc)?;
-    Ok(rows)
+    Ok(items)
 }
 
 /// All guarantees, and the amounts in use on them. `AllocError`: want of memory.

@@ -9,7 +9,8 @@ use Rattle.sqlite.specs.State.{State}
 use Rattle.sqlite_trees.proofs.ListLemmas.{IsPermutation-filter, all_both, all_weaker, map-map}
 use Rattle.keyed_rows.specs.Rows.{Rises}
 use Rattle.keyed_rows.proofs.Putting.{All-row_at}
-use Rattle.td_movement.specs.Movements.{without_lines}
+use Rattle.td_commands.specs.declared.lists.ListedMovement.{ListedMovement}
+use Rattle.td_model.specs.Table.{listed}
 use Rattle.td_movement.specs.declared.movement.Movement.{Movement}
 use Rattle.td_guarantee.specs.Usage.{used_on}
 use Rattle.td_guarantee.specs.declared.guarantee.Guarantee.{Guarantee}
@@ -30,16 +31,16 @@ use Rattle.td_table_model.proofs.Orders.{apart_permuted, brought_to_order, in_or
 use Rattle.td_table_model.proofs.Owned.{guarantees_rise, owned_kept}
 use Rattle.td_table_model.proofs.Rebuilt.{numbered_within}
 use Rattle.td_store_rows.specs.KeptTable.{AreKeptBySerial, kept_row_of}
-use Rattle.td_store_rows.specs.MovementTable.{AreBySerial, movement_row_of}
+use Rattle.td_store_rows.specs.MovementTable.{AreListedBySerial, shown_in_list, shown_of}
 use Rattle.td_store_rows.specs.Places.{is_within}
 use Rattle.td_store_rows.specs.Ranges.{rows_below, rows_between}
 use Rattle.td_store_rows.specs.StoreReads.{KeepsUse, OnlyReadNewest}
 use Rattle.td_store_rows.specs.StoreTables.{HoldsContent, tables_in}
 use Rattle.td_store_rows.specs.declared.guarantees.stored.KeptGuarantee.{KeptGuarantee}
-use Rattle.td_store_rows.specs.declared.movements.stored.StoredMovement.{StoredMovement}
+use Rattle.td_store_rows.specs.declared.movements.stored.MovementInList.{MovementInList}
 use Rattle.td_store_rows.proofs.StoreReads.{newest_keeps}
 use Rattle.td_store_rows.proofs.RowRanges.{all_below, joined, none_below, within_apart, within_is}
-use Rattle.td_store_load.specs.Loaded.{IsOfTables, bare}
+use Rattle.td_store_load.specs.Loaded.{IsOfTables}
 use Rattle.td_store_load.specs.Needed.{entry_from, kept_by, with_use}
 use Rattle.td_store_load.specs.Placed.{kept_rows, keyed}
 use Rattle.td_store_load.proofs.Behind.{own_entries}
@@ -47,42 +48,42 @@ use Rattle.td_store_load.proofs.Places.{rekeyed}
 use Rattle.td_store_load.proofs.Reading.{said_before}
 
 -- none has a serial below 0
-pub none_below_first : (H : ℕ) (a : State) → IsOfTables (λ t. map bare (rows_below 0 (movements_by H t))) a []
+pub none_below_first : (H : ℕ) (a : State) → IsOfTables (λ t. map shown_of (rows_below 0 (movements_by H t))) a []
 none_below_first H a c holds =
     let t : Tables = tables_in holds.trees.layout a.now.trees in
-    sym (ap (map bare) (none_below 0 0 (movements_by H t) (in_order_rises place (part H t.movements)) (omega arith)))
+    sym (ap (map shown_of) (none_below 0 0 (movements_by H t) (in_order_rises place (part H t.movements)) (omega arith)))
 
--- the rows that a range shows are those with serials in it
-range_is : (H first next : ℕ) (b : State) (found : List StoredMovement) → AreBySerial (is_within H first next) b found
-    → IsOfTables (λ t. rows_between first next (movements_by H t)) b (map movement_row_of found)
+-- what a range shows is what a list shows of the rows with serials in it
+range_is : (H first next : ℕ) (b : State) (found : List MovementInList) → AreListedBySerial (is_within H first next) b found
+    → IsOfTables (λ t. map shown_of (rows_between first next (movements_by H t))) b (map shown_in_list found)
 range_is H first next b found order c holds =
     let t : Tables = tables_in holds.trees.layout b.now.trees in
     let keep : KeepRules t = keep_rules t c holds.trees.sound holds.trees.tables in
     let apart : IsApart place (part H t.movements) = keep.stored.movements H in
     order holds.trees.layout holds.schema holds.trees.typed.movements (within_apart H t.movements apart first next)
-    ∙ within_is H t.movements apart first next
+    ∙ ap (map shown_of) (within_is H t.movements apart first next)
 
 -- with them those below the range's end are gathered
-pub range_more : (H first next : ℕ) → first ≤ next → (a b : State) → OnlyReadNewest a b → (before : List Movement)
-    → IsOfTables (λ t. map bare (rows_below first (movements_by H t))) a before
-    → (found : List StoredMovement) → AreBySerial (is_within H first next) b found
-    → (after : List Movement) → after ≡ before ++ map (λ r. without_lines r.movement) found
-    → IsOfTables (λ t. map bare (rows_below next (movements_by H t))) a after
+pub range_more : (H first next : ℕ) → first ≤ next → (a b : State) → OnlyReadNewest a b → (before : List ListedMovement)
+    → IsOfTables (λ t. map shown_of (rows_below first (movements_by H t))) a before
+    → (found : List MovementInList) → AreListedBySerial (is_within H first next) b found
+    → (after : List ListedMovement) → after ≡ before ++ map shown_in_list found
+    → IsOfTables (λ t. map shown_of (rows_below next (movements_by H t))) a after
 range_more H first next up a b read before is found order after pushed c holds =
     let t : Tables = tables_in holds.trees.layout a.now.trees in
     let mine : List (Keyed Movement) = movements_by H t in
-    let here : map movement_row_of found ≡ rows_between first next mine =
-    said_before (λ t. rows_between first next (movements_by H t)) a b (map movement_row_of found) read (range_is H first next b found order) c holds in
+    let here : map shown_in_list found ≡ map shown_of (rows_between first next mine) =
+    said_before (λ t. map shown_of (rows_between first next (movements_by H t))) a b (map shown_in_list found) read (range_is H first next b found order) c holds in
     pushed
-    ∙ ap₂ (λ x y. x ++ y) (is c holds) (sym (map-map bare movement_row_of found) ∙ ap (map bare) here)
-    ∙ sym (map-append bare (rows_below first mine) (rows_between first next mine))
-    ∙ ap (map bare) (sym (joined first next 0 mine (in_order_rises place (part H t.movements)) up))
+    ∙ ap₂ (λ x y. x ++ y) (is c holds) here
+    ∙ sym (map-append shown_of (rows_below first mine) (rows_between first next mine))
+    ∙ ap (map shown_of) (sym (joined first next 0 mine (in_order_rises place (part H t.movements)) up))
 
 -- those up to the count in the holder's row are all
-pub all_listed : (row : HolderRow) (a : State) (found : List Movement)
-    → IsOfTables (λ t. map bare (rows_below (row.mrn_count + 1) (movements_by row.holder t))) a found
+pub all_listed : (row : HolderRow) (a : State) (found : List ListedMovement)
+    → IsOfTables (λ t. map shown_of (rows_below (row.mrn_count + 1) (movements_by row.holder t))) a found
     → (c : Content) → HoldsContent c a → (account_in row.holder c).holder ≡ Some row
-    → found ≡ map without_lines (account_in row.holder c).movements
+    → found ≡ map listed (account_in row.holder c).movements
 all_listed row a found is c holds has =
     let t : Tables = tables_in holds.trees.layout a.now.trees in
     let mine : List (Keyed Movement) = movements_by row.holder t in
@@ -93,8 +94,8 @@ all_listed row a found is c holds has =
     let low : AllByRecursion (λ r. place r < row.mrn_count + 1) mine =
     all_weaker (λ r. (0 < place r) × (place r ≤ 0 + length mine)) (λ r. place r < row.mrn_count + 1) (λ r within. omega (arith, within.1, own.movements.count)) mine
     (numbered_within place 0 mine own.movements.serials) in
-    is c holds ∙ ap (map bare) (all_below (row.mrn_count + 1) mine low)
-    ∙ sym (map-map without_lines (with_lines t) mine) ∙ ap (λ (x : Account). map without_lines x.movements) (sym same)
+    is c holds ∙ ap (map shown_of) (all_below (row.mrn_count + 1) mine low)
+    ∙ sym (map-map listed (with_lines t) mine) ∙ ap (λ (x : Account). map listed x.movements) (sym same)
 
 -- The rows of a holder's guarantees, as the content says them.
 module _ (t : Tables) (c : Content) (sound : IsSound c) (are : AreTablesOf t c) (keep : KeepAmounts t) (H : ℕ) where

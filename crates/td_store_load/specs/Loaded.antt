@@ -2,9 +2,7 @@
 use Rattle.std.specs.Prelude.{◌≡◌, ℕ, List}
 use Rattle.sqlite.specs.State.{State}
 use Rattle.td_desk.specs.Content.{Content}
-use Rattle.td_movement.specs.Movements.{without_lines}
 use Rattle.td_movement.specs.declared.line.Line.{Line}
-use Rattle.td_movement.specs.declared.movement.Movement.{Movement}
 use Rattle.td_table_model.specs.Gathering.{grn_by}
 use Rattle.td_table_model.specs.Tables.{Keyed, LineCells, Tables}
 use Rattle.td_store_rows.specs.declared.codes.stored.StoredCode.{StoredCode}
@@ -13,10 +11,6 @@ use Rattle.td_store_rows.specs.StoreTables.{HoldsContent, tables_in}
 -- the code in a row
 abbrev pub code_of : StoredCode → List ℕ
 code_of row = row.code
-
--- a movement in its row, without lines
-abbrev pub bare : Keyed Movement → Movement
-bare r = without_lines r.row
 
 -- the line in a row of a holder's movement, on the guarantee of the holder's that the row names
 abbrev pub line_of : ℕ → Tables → Keyed LineCells → Line

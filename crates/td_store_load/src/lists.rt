@@ -4,39 +4,39 @@
 ghost use Rattle.std.specs.Prelude.{◌≡◌, ◌++◌, Some, map, IfOk, OnOk, is_ok};
 ghost use Rattle.sqlite.specs.Held.{state};
 ghost use Rattle.sqlite.specs.State.{HasCleanDisk};
-ghost use Rattle.td_movement.specs.Movements.{without_lines};
+ghost use Rattle.td_model.specs.Table.{listed};
 ghost use Rattle.td_desk.specs.Content.{Content, account_in};
 ghost use Rattle.td_table_model.specs.Gathering.{movements_by};
 ghost use Rattle.typed_sql.specs.Reading.{IsInside};
 ghost use Rattle.td_store_rows.specs.KeptTable.{kept_row_of};
+ghost use Rattle.td_store_rows.specs.MovementTable.{shown_in_list, shown_of};
 ghost use Rattle.td_store_rows.specs.Ranges.{rows_below};
 ghost use Rattle.td_store_rows.specs.StoreReads.{ReadsNewest};
 ghost use Rattle.td_store_rows.specs.StoreTables.{HoldsContent};
-ghost use Rattle.td_store_load.specs.Loaded.{IsOfTables, bare};
+ghost use Rattle.td_store_load.specs.Loaded.{IsOfTables};
 ghost use Rattle.td_store_load.specs.Needed.{entry_from, kept_by, with_use};
 
 use crate::entries::entry_in_row;
 use sqlite::{Error, ErrorCode, Transaction};
 use sqlite_trees::store::Alter;
 use std::alloc::{AllocError, Global};
-use td_acts::HolderRow;
+use td_acts::{HolderRow, ListedMovement};
 use td_base::{Cents, HolderNo};
 use td_guarantee::Guarantee;
-use td_movement::Movement;
-use td_store_rows::{KeptGuarantee, StoredMovement, kept_within, movements_within, range_end};
+use td_store_rows::{KeptGuarantee, MovementInList, kept_within, listed_within, range_end};
 
-/// All movements of the holder with this row, by their serials, without their lines.
+/// All movements of the holder with this row, by their serials, as a list shows them.
 pub fn list_movements<S: Alter>(
     alloc: Global,
     tx: &mut Transaction<'_, S>,
     row: &HolderRow,
-) -> Result<Vec<Movement>, Error>
+) -> Result<Vec<ListedMovement>, Error>
     requires { IsInside (state S.Store tx.old.conn.now) }
     ensures same_reference { tx.new.conn.ghost_name ≡ tx.old.conn.ghost_name }
     ensures found { HasCleanDisk (state S.Store tx.new.conn.now)
         → IfOk result (λ found. (c : Content) → HoldsContent c (state S.Store tx.old.conn.now)
         → (account_in row.now.holder c).holder ≡ Some row.now
-        → found.items ≡ map without_lines (account_in row.now.holder c).movements) }
+        → found.items ≡ map listed (account_in row.now.holder c).movements) }
     ensures reads { ReadsNewest (is_ok result) (state S.Store tx.old.conn.now) (state S.Store tx.new.conn.now) }
 {
     let Some(end) = row.mrn_count.checked_add(1) else {
@@ -45,17 +45,17 @@ pub fn list_movements<S: Alter>(
     movements_below(alloc, tx, row.holder, end)
 }
 
-// The holder's movements with serials below `end`, by their serials, without their lines.
+// The holder's movements with serials below `end`, by their serials, as a list shows them.
 fn movements_below<S: Alter>(
     alloc: Global,
     tx: &mut Transaction<'_, S>,
     holder: HolderNo,
     end: u32,
-) -> Result<Vec<Movement>, Error>
+) -> Result<Vec<ListedMovement>, Error>
     requires { IsInside (state S.Store tx.old.conn.now) }
     ensures same_reference { tx.new.conn.ghost_name ≡ tx.old.conn.ghost_name }
     ensures found { HasCleanDisk (state S.Store tx.new.conn.now)
-        → IfOk result (λ found. IsOfTables (λ t. map bare (rows_below end (movements_by holder t)))
+        → IfOk result (λ found. IsOfTables (λ t. map shown_of (rows_below end (movements_by holder t)))
         (state S.Store tx.old.conn.now) found.items) }
     ensures reads { ReadsNewest (is_ok result) (state S.Store tx.old.conn.now) (state S.Store tx.new.conn.now) }
 {
@@ -63,23 +63,19 @@ fn movements_below<S: Alter>(
     let mut first = 0;
     'parts: while first < end {
         let next = range_end(first, end);
-        let rows = movements_within(alloc, tx, holder, first, next)?;
-        push_rows(alloc, &mut movements, &rows)?;
+        let rows = listed_within(alloc, tx, holder, first, next)?;
+        push_rows(&mut movements, &rows)?;
         first = next;
     }
     Ok(movements)
 }
 
-// The movements in rows go behind others, without lines. `AllocError`: want of memory.
-fn push_rows(
-    alloc: Global,
-    movements: &mut Vec<Movement>,
-    rows: &[StoredMovement],
-) -> Result<(), AllocError>
-    ensures { OnOk result (movements.new.items ≡ movements.old.items ++ map (λ r. without_lines r.movement) rows.now) }
+// What rows show goes behind other movements. `AllocError`: want of memory.
+fn push_rows(movements: &mut Vec<ListedMovement>, rows: &[MovementInList]) -> Result<(), AllocError>
+    ensures { OnOk result (movements.new.items ≡ movements.old.items ++ map shown_in_list rows.now) }
 {
     'rows: for row in rows {
-        movements.push(row.movement.without_lines(alloc))?;
+        movements.push(row.shown)?;
     }
     Ok(())
 }

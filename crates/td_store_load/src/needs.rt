@@ -86,6 +86,7 @@ fn row_alone(alloc: Global, country: Country, row: HolderRow) -> Loaded
         country,
         holder: Some(row),
         movements: Vec::new(alloc),
+        listed: Vec::new(alloc),
         guarantees: Vec::new(alloc),
     }
 }
@@ -123,6 +124,7 @@ fn load_lodging<S: Alter>(
         country,
         holder: Some(row),
         movements,
+        listed: Vec::new(alloc),
         guarantees,
     })
 }
@@ -190,11 +192,12 @@ fn load_release<S: Alter>(
         country,
         holder: Some(row),
         movements,
+        listed: Vec::new(alloc),
         guarantees,
     })
 }
 
-// All movements, without their lines.
+// All movements, as a list shows them.
 fn load_movements<S: Alter>(
     alloc: Global,
     tx: &mut Transaction<'_, S>,
@@ -207,9 +210,9 @@ fn load_movements<S: Alter>(
         → IfOk result (IsLoadedFor country row all_movements (state S.Store tx.old.conn.now)) }
     ensures reads { ReadsNewest (is_ok result) (state S.Store tx.old.conn.now) (state S.Store tx.new.conn.now) }
 {
-    let movements = list_movements(alloc, tx, &row)?;
+    let listed = list_movements(alloc, tx, &row)?;
     let mut loaded = row_alone(alloc, country, row);
-    loaded.movements = movements;
+    loaded.listed = listed;
     Ok(loaded)
 }
 

@@ -10,6 +10,7 @@ mod GuaranteeStatements
 mod KeptStatements
 mod CodeMeanings
 mod CodeStatements
+mod MovementLists
 pub mod MovementMeanings
 mod MovementCells
 pub mod MovementStatements

@@ -17,7 +17,7 @@ use Rattle.td_schema.specs.declared.layout.Layout.TheVariants.{Made1, Made2, Gro
 use Rattle.typed_sql.specs.Meanings.{HasTable, MeansInsert, MeansUpdate, MeansSelect}
 use Rattle.td_store_rows.specs.Columns.{movements_table}
 use Rattle.td_store_rows.proofs.RangeTests.{within_tests}
-use Rattle.td_store_rows.specs.declared.movements.texts.TheConstants.{INSERT, SET_STATUS, BY_MRN, BY_LRN, WITHIN, NEXT_OF_HOLDER, OF_HOLDERS_ABOVE, DEADLINES, COUNTING_SERIALS}
+use Rattle.td_store_rows.specs.declared.movements.texts.TheConstants.{INSERT, SET_STATUS, BY_MRN, BY_LRN, WITHIN, LISTED_WITHIN, NEXT_OF_HOLDER, OF_HOLDERS_ABOVE, DEADLINES, COUNTING_SERIALS}
 
 movements_there : (l : Layout) → HasTable (schema_of l) 3 movements_table
 movements_there Made1 = record { there = refl; free = none_acts Made1 4 }
@@ -161,6 +161,22 @@ deadlines_mean Grown2 = record { names = deadline_names; command = refl; plain =
 deadlines_mean Made3 = record { names = deadline_names; command = refl; plain = (refl, refl); unlisted = refl }
 deadlines_mean Grown3From2 = record { names = deadline_names; command = refl; plain = (refl, refl); unlisted = refl }
 deadlines_mean Grown3From1 = record { names = deadline_names; command = refl; plain = (refl, refl); unlisted = refl }
+
+-- what a list shows
+abbrev pub listed_columns : List Term
+listed_columns = col 1 3 ∷ col 1 4 ∷ col 1 8 ∷ []
+
+abbrev listed_names : List (List ℕ)
+listed_names = codes "mrn" ∷ codes "lrn" ∷ codes "state" ∷ []
+
+pub listed_means : (l : Layout) → MeansSelect (schema_of l) LISTED_WITHIN.now 4 within_tests listed_columns by_serial
+unfolding understood everything
+listed_means Made1 = record { names = listed_names; command = refl; plain = (refl, refl); unlisted = refl }
+listed_means Made2 = record { names = listed_names; command = refl; plain = (refl, refl); unlisted = refl }
+listed_means Grown2 = record { names = listed_names; command = refl; plain = (refl, refl); unlisted = refl }
+listed_means Made3 = record { names = listed_names; command = refl; plain = (refl, refl); unlisted = refl }
+listed_means Grown3From2 = record { names = listed_names; command = refl; plain = (refl, refl); unlisted = refl }
+listed_means Grown3From1 = record { names = listed_names; command = refl; plain = (refl, refl); unlisted = refl }
 
 -- the serial alone
 abbrev pub serial_column : List Term

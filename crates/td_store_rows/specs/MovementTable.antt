@@ -6,6 +6,8 @@ use Rattle.std.specs.Ordering.{nat_cmp}
 use Rattle.std.specs.Str.{bytes_eq}
 use Rattle.td_movement.specs.States.{is_counting, state_name}
 use Rattle.td_movement.specs.declared.movement.Movement.{Movement}
+use Rattle.td_commands.specs.declared.lists.ListedMovement.{ListedMovement}
+use Rattle.td_model.specs.Table.{listed}
 use Rattle.td_acts.specs.Changes.{with_status}
 use Rattle.td_acts.specs.declared.rows.NewStatus.{NewStatus}
 use Rattle.td_table_model.specs.Tables.{Keyed}
@@ -21,6 +23,7 @@ use Rattle.sqlite.specs.State.{State}
 use Rattle.td_store_rows.specs.Columns.{movement_typing, state_in}
 use Rattle.td_store_rows.specs.Places.{by_place}
 use Rattle.td_store_rows.specs.declared.movements.stored.MovementDeadlines.{MovementDeadlines}
+use Rattle.td_store_rows.specs.declared.movements.stored.MovementInList.{MovementInList}
 use Rattle.td_store_rows.specs.declared.movements.stored.MovementSerial.{MovementSerial}
 use Rattle.td_store_rows.specs.declared.movements.stored.StoredMovement.{StoredMovement}
 
@@ -73,6 +76,23 @@ deadlines_from cells = record {
   limit = number_if (column cells 3);
   arrival = number_if (column cells 4);
 }
+
+-- what a list shows of a movement in its row, and what three columns are read as
+abbrev pub shown_of : Keyed Movement → ListedMovement
+shown_of m = listed m.row
+
+abbrev pub shown_in_list : MovementInList → ListedMovement
+shown_in_list m = m.shown
+
+abbrev pub listed_from : Row → ListedMovement
+listed_from cells = record { mrn = text_in (column cells 0); lrn = text_in (column cells 1); state = state_in (text_in (column cells 2)) }
+
+-- where no two of the movements that pass the test have one serial, this is what a list shows of them by their serials
+abbrev pub AreListedBySerial : (Keyed Movement → Bool) → State → List MovementInList → Type 0
+AreListedBySerial p state found =
+    (l : Layout) → HasSchema state (schema_of l) → AreTyped movement_typing state.now.trees
+    → IsApart place (filter p (typed_rows movement_typing state.now.trees))
+    → map shown_in_list found ≡ map shown_of (in_order place (filter p (typed_rows movement_typing state.now.trees)))
 
 -- a serial that was found
 abbrev pub serial_of_stored : MovementSerial → ℕ

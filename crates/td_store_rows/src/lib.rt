@@ -22,9 +22,9 @@ pub use holders::{find_holder, insert_holder, set_holder};
 pub use lines::{StoredLine, empty_lines1, insert_line, lines_of, lines_on, older_lines};
 pub use meta::{StoredMeta, find_meta, insert_meta, set_version};
 pub use movements::{
-    MovementDeadlines, MovementSerial, StoredMovement, counting_serials, find_by_lrn, find_by_mrn,
-    first_movement_above, insert_movement, movements_within, next_movement_of, set_status,
-    visit_deadlines,
+    MovementDeadlines, MovementInList, MovementSerial, StoredMovement, counting_serials,
+    find_by_lrn, find_by_mrn, first_movement_above, insert_movement, listed_within,
+    movements_within, next_movement_of, set_status, visit_deadlines,
 };
 pub use places::{above_key, place_key, range_key};
 pub use ranges::range_end;

@@ -7,9 +7,9 @@ mod visiting;
 mod writing;
 
 pub use finding::{
-    counting_serials, find_by_lrn, find_by_mrn, first_movement_above, movements_within,
-    next_movement_of,
+    counting_serials, find_by_lrn, find_by_mrn, first_movement_above, listed_within,
+    movements_within, next_movement_of,
 };
-pub use stored::{MovementDeadlines, MovementSerial, StoredMovement};
+pub use stored::{MovementDeadlines, MovementInList, MovementSerial, StoredMovement};
 pub use visiting::visit_deadlines;
 pub use writing::{insert_movement, set_status};

@@ -7,7 +7,7 @@ use crate::examples::{
 use keyed_rows::Keyed;
 use std::alloc::AllocError;
 use std::process::Abort;
-use td_acts::{Change, HolderRow, Loaded, Needs, NewStatus};
+use td_acts::{Change, HolderRow, ListedMovement, Loaded, Needs, NewStatus};
 use td_base::{Cents, Moment};
 use td_guarantee::Guarantee;
 use td_holder_memory::HolderFile;
@@ -79,6 +79,14 @@ fn push_movements(words: &mut String, movements: &[Movement]) -> Result<(), Allo
     Ok(())
 }
 
+fn push_listed(words: &mut String, movements: &[ListedMovement]) -> Result<(), AllocError> {
+    for movement in movements {
+        let state = movement.state.name();
+        write!(words, "{} {} {state} ", movement.mrn, movement.lrn)?;
+    }
+    Ok(())
+}
+
 fn push_guarantees(
     words: &mut String,
     guarantees: &[(Guarantee, Cents)],
@@ -89,10 +97,11 @@ fn push_guarantees(
     Ok(())
 }
 
-// The references of what was loaded, how many lines there are, and the amounts in use.
+// The references of what was loaded, how many lines there are or, in a list, the states, and the amounts in use.
 fn words_of(rt: &(impl AllocGlobal + Abort), loaded: &Loaded) -> String {
     let mut words = String::new(rt.alloc());
     push_movements(&mut words, &loaded.movements).expect(rt, "memory");
+    push_listed(&mut words, &loaded.listed).expect(rt, "memory");
     push_guarantees(&mut words, &loaded.guarantees).expect(rt, "memory");
     words
 }
@@ -118,7 +127,7 @@ fn rows_are_loaded_by_needs(rt: HostRuntime) {
         ),
         (
             Needs::AllMovements,
-            "25CH000001000001J8 0 25CH000001000002J7 0 ",
+            "25CH000001000001J8 A1 released 25CH000001000002J7 A2 accepted ",
         ),
         (Needs::Guarantee(grn), "25CH0000010000014 5.00 "),
         (

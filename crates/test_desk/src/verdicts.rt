@@ -35,6 +35,7 @@ fn holder_alone(rt: &(impl AllocGlobal + Abort), holder: Option<HolderRow>) -> L
         country: country(rt),
         holder,
         movements: Vec::new(rt.alloc()),
+        listed: Vec::new(rt.alloc()),
         guarantees: Vec::new(rt.alloc()),
     }
 }

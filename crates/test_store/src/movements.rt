@@ -2,11 +2,12 @@
 use crate::examples::{HOLDER, MRN, holder, lrn, movement, mrn, with_rows};
 use sqlite::{Connection, MemStore};
 use std::process::Abort;
-use td_acts::NewStatus;
+use td_acts::{ListedMovement, NewStatus};
 use td_base::{Day, HolderNo};
 use td_movement::{Movement, State};
 use td_store_rows::{
-    counting_serials, find_by_lrn, find_by_mrn, insert_movement, movements_within, set_status,
+    counting_serials, find_by_lrn, find_by_mrn, insert_movement, listed_within, movements_within,
+    set_status,
 };
 
 /// Writes a movement that was accepted for the holder, under serial 1.
@@ -48,6 +49,10 @@ fn a_movement_is_found_by_its_references(rt: HostRuntime) {
     let found = find_by_lrn(alloc, &mut tx, holder, &lrn).expect(&rt, "a row");
     let found = found.expect(&rt, "a movement");
     assert!(rt; found.movement.mrn == mrn && is_accepted(&found.movement));
+    let listed = listed_within(alloc, &mut tx, holder, 0, 2).expect(&rt, "rows");
+    assert!(rt; listed.len() == 1);
+    let state = State::Accepted;
+    assert!(rt; listed[0].shown == ListedMovement { lrn, mrn, state });
 }
 
 fn is_released(movement: &Movement) -> bool {

@@ -3,7 +3,7 @@ use crate::examples::{GRN, OLDER_MRN, code, country, grn, line, lrn, mrn, with_r
 use sqlite::{Connection, MemStore};
 use std::alloc::AllocError;
 use std::process::Abort;
-use td_acts::{Lines, Loaded, Needs};
+use td_acts::{Lines, ListedMovement, Loaded, Needs};
 use td_base::{Cents, HolderNo};
 use td_guarantee::Guarantee;
 use td_movement::Movement;
@@ -46,6 +46,14 @@ fn push_movements(words: &mut String, movements: &[Movement]) -> Result<(), Allo
     Ok(())
 }
 
+fn push_listed(words: &mut String, movements: &[ListedMovement]) -> Result<(), AllocError> {
+    for movement in movements {
+        let state = movement.state.name();
+        write!(words, "{} {} {state} ", movement.mrn, movement.lrn)?;
+    }
+    Ok(())
+}
+
 fn push_guarantees(
     words: &mut String,
     guarantees: &[(Guarantee, Cents)],
@@ -56,13 +64,14 @@ fn push_guarantees(
     Ok(())
 }
 
-/// The references of what was loaded, how many lines and codes there are, and the amounts in use; `-` where no holder is
+/// The references of what was loaded, how many lines and codes there are or, in a list, the states, and the amounts in use; `-` where no holder is
 /// registered.
 fn push_words(words: &mut String, loaded: &Loaded) -> Result<(), AllocError> {
     match loaded.holder {
         None => words.push_str("-"),
         Some(_) => {
             push_movements(words, &loaded.movements)?;
+            push_listed(words, &loaded.listed)?;
             push_guarantees(words, &loaded.guarantees)
         }
     }
@@ -124,8 +133,8 @@ fn each_need_is_loaded_of_its_owner(rt: HostRuntime) {
         ),
         (
             Needs::AllMovements,
-            "25CH00000100000013 0 25CH00000100000021 0 25CH00000100000030 0 ",
-            "25CH00000200000019 0 25CH00000200000027 0 ",
+            "25CH00000100000013 A1 released 25CH00000100000021 A2 cleared 25CH00000100000030 A3 accepted ",
+            "25CH00000200000019 B1 enquired 25CH00000200000027 B2 written-off ",
         ),
         (Needs::Guarantee(grn), "25CH0000010000014 2 4.00 ", ""),
         (

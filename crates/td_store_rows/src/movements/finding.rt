@@ -8,12 +8,12 @@ ghost use Rattle.sqlite_value.specs.declared.value.Value.TheVariants.{Text};
 ghost use Rattle.typed_sql.specs.Values.{number_value};
 ghost use Rattle.typed_sql.specs.Reading.{IsInside};
 ghost use Rattle.td_store_rows.specs.StoreReads.{ReadsStore};
-ghost use Rattle.td_store_rows.specs.MovementTable.{AreBySerial, AreMovements, AreSerialsInOrder, AreSerialsOf, IsFirstMovement, IsTheMovement, has_lrn, has_mrn, counts_for};
+ghost use Rattle.td_store_rows.specs.MovementTable.{AreBySerial, AreListedBySerial, AreMovements, AreSerialsInOrder, AreSerialsOf, IsFirstMovement, IsTheMovement, has_lrn, has_mrn, counts_for};
 ghost use Rattle.td_store_rows.specs.Places.{is_above, is_after, is_within};
 
-use crate::movements::stored::{MovementSerial, StoredMovement};
+use crate::movements::stored::{MovementInList, MovementSerial, StoredMovement};
 use crate::movements::texts::{
-    BY_LRN, BY_MRN, COUNTING_SERIALS, NEXT_OF_HOLDER, OF_HOLDERS_ABOVE, WITHIN,
+    BY_LRN, BY_MRN, COUNTING_SERIALS, LISTED_WITHIN, NEXT_OF_HOLDER, OF_HOLDERS_ABOVE, WITHIN,
 };
 use crate::places::{above_key, place_key, range_key};
 use sqlite::{Error, Transaction};
@@ -89,6 +89,24 @@ pub fn movements_within<S: Alter>(
     ensures reads { ReadsStore (is_ok result) (state S.Store tx.old.conn.now) (state S.Store tx.new.conn.now) }
 {
     typed_sql::fetch(alloc, tx, WITHIN, &range_key(holder, first, end))
+}
+
+/// What a list shows of a holder's movements with serials from `first` on and below `end`, by their serials. Of a row only the MRN,
+/// the LRN and the state are read.
+pub fn listed_within<S: Alter>(
+    alloc: Global,
+    tx: &mut Transaction<'_, S>,
+    holder: HolderNo,
+    first: u32,
+    end: u32,
+) -> Result<Vec<MovementInList>, Error>
+    requires { IsInside (state S.Store tx.old.conn.now) }
+    ensures same_reference { tx.new.conn.ghost_name ≡ tx.old.conn.ghost_name }
+    ensures order { HasCleanDisk (state S.Store tx.new.conn.now)
+        → IfOk result (λ found. AreListedBySerial (is_within holder first end) (state S.Store tx.old.conn.now) found.items) }
+    ensures reads { ReadsStore (is_ok result) (state S.Store tx.old.conn.now) (state S.Store tx.new.conn.now) }
+{
+    typed_sql::fetch(alloc, tx, LISTED_WITHIN, &range_key(holder, first, end))
 }
 
 /// The movement with the least serial above that one among those of the holder with a number, if there is one: no other row is

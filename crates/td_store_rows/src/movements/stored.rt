@@ -2,6 +2,7 @@
 use keyed_rows::Keyed;
 use sqlite::Row;
 use std::alloc::Global;
+use td_acts::ListedMovement;
 use td_base::{Day, HolderNo, Mrn};
 use td_movement::{Movement, MovementLines, State};
 use td_schema::{
@@ -82,6 +83,33 @@ impl FromRow for MovementDeadlines {
             limit: optional_day_at(row, 3)?,
             arrival: optional_day_at(row, 4)?,
         })
+    }
+}
+
+/// What a list shows of a movement, read alone.
+#[derive(Clone, Copy, Debug)]
+pub struct MovementInList {
+    pub shown: ListedMovement,
+}
+
+impl FromRow for MovementInList {
+    ghost use Rattle.td_commands.specs.declared.lists.ListedMovement.{ListedMovement};
+    ghost use Rattle.td_store_rows.specs.MovementTable.{listed_from, shown_in_list};
+
+    ghost Typed = { ListedMovement };
+
+    ghost typed = { shown_in_list };
+
+    ghost from = { listed_from };
+
+    // A row of three columns.
+    fn from_row(_alloc: Global, row: &Row) -> Option<Self> {
+        let shown = ListedMovement {
+            mrn: mrn_at(row, 0)?,
+            lrn: lrn_at(row, 1)?,
+            state: state_at(row, 2)?,
+        };
+        Some(MovementInList { shown })
     }
 }
 

@@ -20,6 +20,10 @@ pub const BY_LRN: &str =
 pub const WITHIN: &str =
     "SELECT holder, serial, mrn, lrn, departure, destination, accepted, state, limit_day, arrival, actual FROM movements WHERE holder = ?1 AND serial >= ?2 AND serial < ?3 ORDER BY holder, serial";
 
+/// What a list shows of the rows of a holder with serials from one on and below another.
+pub const LISTED_WITHIN: &str =
+    "SELECT mrn, lrn, state FROM movements WHERE holder = ?1 AND serial >= ?2 AND serial < ?3 ORDER BY holder, serial";
+
 /// The rows of a holder behind a serial.
 pub const NEXT_OF_HOLDER: &str =
     "SELECT holder, serial, mrn, lrn, departure, destination, accepted, state, limit_day, arrival, actual FROM movements WHERE holder = ?1 AND serial > ?2 ORDER BY holder, serial";

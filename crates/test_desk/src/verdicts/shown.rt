@@ -1,6 +1,7 @@
 //! A verdict is the same, whether what was loaded is lent to be read, or to be taken from.
 use super::*;
 use crate::examples::{SECOND_GRN, SECOND_MRN};
+use td_acts::ListedMovement;
 use td_acts::table::decide;
 use td_guarantee::Guarantee;
 
@@ -34,6 +35,11 @@ fn two_of_each(rt: &(impl AllocGlobal + Abort)) -> Loaded {
         .movements
         .push(second_movement(rt))
         .expect(rt, "memory");
+    for movement in &[movement(rt), second_movement(rt)] {
+        let (lrn, mrn, state) = (movement.lrn, movement.mrn, movement.state);
+        let listed = ListedMovement { lrn, mrn, state };
+        loaded.listed.push(listed).expect(rt, "memory");
+    }
     let opened = (second_guarantee(rt), cents(rt, 0));
     loaded.guarantees.push(opened).expect(rt, "memory");
     loaded

@@ -1,5 +1,6 @@
 use Rattle.std.proofs.Common.{◌≡◌, ◌∙◌, ℕ, Global, Option, Vec, ap, map, refl, subst, sym}
 use Rattle.td_commands.specs.declared.command.Command.{Command}
+use Rattle.td_commands.specs.declared.lists.ListedMovement.{ListedMovement}
 use Rattle.td_commands.specs.declared.said.Answer.TheVariants as answer
 use Rattle.td_commands.specs.declared.said.Refusal.TheVariants.{NoMovement}
 use Rattle.td_commands.specs.declared.said.Said.{Said}
@@ -12,9 +13,9 @@ use Rattle.td_acts.specs.Deciding.{IsVerdictAt}
 use Rattle.td_model.specs.Table.{listed, or_refuse}
 use Rattle.td_model.specs.declared.holder_row.HolderRow.{HolderRow}
 use Rattle.td_acts.specs.declared.rows.Verdict.{Verdict}
-use Rattle.td_acts.proofs.Told.{listed_alike, told_shown, told_view}
+use Rattle.td_acts.proofs.Told.{told_shown, told_view}
 use Rattle.td_acts.proofs.table.decide_at.Goals as goal
-use Rattle.td_acts.proofs.table.decide_at.Goals.{in-Register, in-OpenGuarantee, in-Revoke, in-Ie014, in-Ie029, in-Ie007, in-Ie018, in-Ie045, in-Ie140, in-SeeHolder, in-SeeMovement, in-SeeMovements+in_ok-items-in-SeeMovements, in-SeeGuarantee, in-SeeGuarantees}
+use Rattle.td_acts.proofs.table.decide_at.Goals.{in-Register, in-OpenGuarantee, in-Revoke, in-Ie014, in-Ie029, in-Ie007, in-Ie018, in-Ie045, in-Ie140, in-SeeHolder, in-SeeMovement, in-SeeMovements, in-SeeGuarantee, in-SeeGuarantees}
 
 abbrev holder_shown : HolderRow → Said
 holder_shown row = Answered (answer.Holder row.holder row.eori row.grn_count row.mrn_count)
@@ -41,11 +42,11 @@ returns c = elim c.match-command.branch [
       (λ row. movement_shown (movement_by_mrn w.in-SeeMovement.mrn account.movements)) w.see_movement-verdict.result
       loaded.holder (ap (λ found. λ (row : HolderRow). movement_shown found) (w.take_movement-found.ensures ∙ loaded.things))
       w.see_movement-verdict.ensures.said w.see_movement-verdict.ensures.change)
-  | in-SeeMovements+in_ok-items-in-SeeMovements w ↦ as_is _ w.in-SeeMovements.is _ w.verdict-is
-      (λ account loaded. told_view c.args.loaded.now.holder account.holder (λ row. Answered (answer.Movements w.in_ok-items-in-SeeMovements.items.items))
+  | in-SeeMovements w ↦ as_is _ w.in-SeeMovements.is _ w.verdict-is
+      (λ account loaded. told_view c.args.loaded.now.holder account.holder (λ row. Answered (answer.Movements w.replace-items.result.items))
       (λ row. Answered (answer.Movements (map listed account.movements))) w.see_movements-verdict.result
       loaded.holder (ap (λ items. λ (row : HolderRow). Answered (answer.Movements items))
-      (w.in_ok-items-in-SeeMovements.ensures ∙ ap (map listed) (w.deref.ensures.value ∙ loaded.things) ∙ listed_alike account.movements))
+      (ap (λ (items : Vec ListedMovement Global). items.items) w.replace-items.ensures.value ∙ loaded.things))
       w.see_movements-verdict.ensures.said w.see_movements-verdict.ensures.change)
   | in-SeeGuarantee w ↦ as_is _ w.in-SeeGuarantee.is _ w.verdict-is
       (λ account loaded. told_shown account c.args.loaded.now.holder w.take_entry-found.result c.args.at w.in-SeeGuarantee.holder w.in-SeeGuarantee.grn w.see_guarantee-verdict.result

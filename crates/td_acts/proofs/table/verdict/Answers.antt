@@ -12,4 +12,4 @@ returns c =
     let same = c.in_ok-copy.ensures in
     let command = c.args.command.now in
     IfOk-weaker c.decide.result (IsVerdict copy c.args.at command) (IsVerdict c.args.loaded.now c.args.at command)
-    (λ v is account loaded. is account (loaded_again account (need_of command) c.args.loaded.now copy same.country same.holder same.movements same.guarantees loaded)) (rw (to_z-of_z w64 c.args.at c.ranges.at) at c.decide.ensures)
+    (λ v is account loaded. is account (loaded_again account (need_of command) c.args.loaded.now copy same.country same.holder same.movements same.listed same.guarantees loaded)) (rw (to_z-of_z w64 c.args.at c.ranges.at) at c.decide.ensures)

@@ -15,7 +15,7 @@ returns-clause-loaded g c clean content holds at row =
     let a : State = state g.S.Store c.args.tx.now.conn.now in
     let b : State = state g.S.Store c.load_movement_by_lrn.new.tx.conn.now in
     let clean_b : HasCleanDisk b = omega (arith, clean, c.load_declared_on.ensures.reads.within.survives.clean) in
-    let loaded : Loaded = record { country = c.args.country; holder = Some c.args.row; movements = c.in_ok-movements.movements; guarantees = c.in_ok-guarantees.guarantees } in
+    let loaded : Loaded = record { country = c.args.country; holder = Some c.args.row; movements = c.in_ok-movements.movements; listed = c.new.result; guarantees = c.in_ok-guarantees.guarantees } in
     record {
       country = sym at;
       holder = sym row;

@@ -34,7 +34,7 @@ returns-clause-loaded g c clean content holds at row = record {
     account = account_in c.args.row.holder content
 
     loaded : Loaded
-    loaded = record { country = c.args.country; holder = Some c.args.row; movements = c.in_ok-movements.movements; guarantees = c.in-Some.released.1 }
+    loaded = record { country = c.args.country; holder = Some c.args.row; movements = c.in_ok-movements.movements; listed = c.new.result; guarantees = c.in-Some.released.1 }
 
     some : Some c.in-Some.released.0 ≡ movement_by_mrn c.args.mrn.now account.movements
     some = sym (ap (option_map (λ both. both.0)) c.in-Some.is) ∙ c.in_ok-released.ensures.found clean content holds at

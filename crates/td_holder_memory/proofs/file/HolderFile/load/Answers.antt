@@ -12,15 +12,16 @@ use Rattle.td_acts.specs.declared.rows.Loaded.{Loaded}
 use Rattle.td_acts.specs.Deciding.{IsLookedUp}
 use Rattle.td_commands.specs.Commands.{need_said}
 use Rattle.td_model.specs.Sound.{IsCovered}
+use Rattle.td_model.specs.Table.{listed}
 use Rattle.td_holder_memory.proofs.Loading.{taken, lodging_looked_up, movement_looked_up, status_looked_up, release_looked_up, guarantee_looked_up}
 use Rattle.td_holder_memory.proofs.file.HolderFile.load.Goals as goal
-use Rattle.td_holder_memory.proofs.file.HolderFile.load.Goals.{in-Nothing, in-Lodging+in_ok-copy_of_found-in-Lodging+in_ok-guarantees_of-in-Lodging, in-Movement+in_ok-copy_of_found-in-Movement, in-Status+in_ok-row_of_found-in-Status, in-Release+in_ok-release_of-in-Release, in-AllMovements+in_ok-rows_of-in-AllMovements, in-AllGuarantees+in_ok-all_entries-in-AllGuarantees, in-Guarantee+in_ok-entries_by_grn-in-Guarantee}
+use Rattle.td_holder_memory.proofs.file.HolderFile.load.Goals.{in-Nothing, in-Lodging+in_ok-copy_of_found-in-Lodging+in_ok-guarantees_of-in-Lodging, in-Movement+in_ok-copy_of_found-in-Movement, in-Status+in_ok-row_of_found-in-Status, in-Release+in_ok-release_of-in-Release, in-AllGuarantees+in_ok-all_entries-in-AllGuarantees, in-Guarantee+in_ok-entries_by_grn-in-Guarantee}
 
 -- the holder's row, and what is needed beside it
 pub returns : goal.returns
 returns c = λ covered.
     let account = account_with c.args.country (Some c.args.self.now) in
-    let loaded : Loaded = record { country = c.args.country; holder = Some c.self.inside.row; movements = c.match-needs.movements.0; guarantees = c.match-needs.movements.1 } in
+    let loaded : Loaded = record { country = c.args.country; holder = Some c.self.inside.row; movements = c.match-needs.movements.0; listed = c.new-2.result; guarantees = c.match-needs.movements.1 } in
     let needed : (n : Needs) → c.args.needs.now ≡ n → IsLookedUp account (need_said n) loaded → IsLookedUp account (need_said c.args.needs.now) loaded =
     λ n is looked. subst (λ (n : Needs). IsLookedUp account (need_said n) loaded) (sym is) looked in
     let lent : (gs : List Guarantee) (ms : List Movement) → gs ≡ c.args.self.now.guarantees → ms ≡ c.args.self.now.movements → AllByRecursion (IsCovered ms) gs =
@@ -53,8 +54,6 @@ returns c = λ covered.
             needed _ w.in-Release.is (release_looked_up account loaded mrn
             (ap (λ p. p.0.items) w.movements-is ∙ w.in_ok-release_of-in-Release.ensures.movement ∙ ap (λ ms. option_to_list (movement_by_mrn mrn ms)) movements)
             (subst (λ (ms : List Movement). IfSome (movement_by_mrn mrn ms) (λ m. c.match-needs.movements.1.items ≡ entries account.guarantees ms m)) movements looked))
-        | in-AllMovements+in_ok-rows_of-in-AllMovements w ↦
-            needed _ w.in-AllMovements.is (ap (λ p. p.0.items) w.movements-is ∙ w.in_ok-rows_of-in-AllMovements.ensures ∙ ap (map without_lines) (w.as_slice.ensures ∙ rows))
         | in-Guarantee+in_ok-entries_by_grn-in-Guarantee w ↦
             let guarantees = ap (λ h. h.guarantees) c.self.view_is in
             let found : List Guarantee → List Movement → List (Guarantee × ℕ) = λ gs ms. option_to_list (option_map (λ g. (g, used_on g.grn ms)) (guarantee_by_grn w.in-Guarantee.grn gs)) in
@@ -67,4 +66,16 @@ returns c = λ covered.
             let here = lent w.as_slice-in-AllGuarantees.result.now c.self.inside.movements guarantees rows in
             needed _ w.in-AllGuarantees.is (ap (λ p. p.1.items) w.movements-is ∙ w.in_ok-all_entries-in-AllGuarantees.ensures here ∙ ap₂ entries guarantees rows)
       ];
+    }
+
+-- and for a list all movements as it shows them
+pub returns-in-AllMovements : goal.returns-in-AllMovements
+returns-in-AllMovements c = λ covered.
+    let account = account_with c.args.country (Some c.args.self.now) in
+    let loaded : Loaded = record { country = c.args.country; holder = Some c.self.inside.row; movements = c.new-in-AllMovements.result; listed = c.in_ok-listed-in-AllMovements.listed; guarantees = c.new-in-AllMovements-2.result } in
+    record {
+      country = refl;
+      holder = ap (λ h. Some h.row) c.self.view_is;
+      things = subst (λ (n : Needs). IsLookedUp account (need_said n) loaded) (sym c.in-AllMovements.is)
+          (c.in_ok-listed-in-AllMovements.ensures ∙ ap (map listed) (c.as_slice.ensures ∙ ap (λ h. h.movements) c.self.view_is));
     }
