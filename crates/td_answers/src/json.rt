@@ -52,9 +52,11 @@ impl<T: ToJson> ToJson for &[T] {
         let Some((first, others)) = self.split_first() else {
             return f.write_str("[]");
         };
-        write!(f, "[{}", Json(first))?;
+        f.write_str("[")?;
+        first.write_json(f)?;
         for value in others {
-            write!(f, ",{}", Json(value))?;
+            f.write_str(",")?;
+            value.write_json(f)?;
         }
         f.write_str("]")
     }

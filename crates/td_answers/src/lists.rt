@@ -8,6 +8,7 @@ ghost use Rattle.td_answers.specs.Objects.{IsGuaranteeTold, IsMovementTold, guar
 use crate::json::{Json, ToJson};
 use crate::objects::{guarantee_is_told_in, is_mrn, write_guarantee};
 use std::fmt;
+use std::fmt::Display;
 use td_base::Cents;
 use td_commands::{ListedGuarantees, ListedMovement, ListedMovements};
 use td_guarantee::Guarantee;
@@ -19,13 +20,14 @@ impl ToJson for ListedMovement {
         // nothing in these texts is escaped, so each stands between its quotes as it is
         let _lrn = self.lrn.as_bytes();
         let _mrn = self.mrn.as_bytes();
-        write!(
-            f,
-            r#"{{"lrn":"{}","mrn":"{}","state":"{}"}}"#,
-            self.lrn,
-            self.mrn,
-            self.state.name()
-        )
+        // a list may have a million of these, and `write!` takes longer than its pieces
+        f.write_str(r#"{"lrn":""#)?;
+        self.lrn.fmt(f)?;
+        f.write_str(r#"","mrn":""#)?;
+        self.mrn.fmt(f)?;
+        f.write_str(r#"","state":""#)?;
+        f.write_str(self.state.name())?;
+        f.write_str(r#""}"#)
     }
 }
 

@@ -11,14 +11,16 @@ pub loop-value-preserved : goal.loop-value-preserved
 loop-value-preserved g c = λ plain.
     let before = c.loop-value.invariant plain in
     let value = c.value-item.result in
-    let here : HasWritten g.W.Write.write_str_gives c.loop-value.f (behind_comma g.T.ToJson.shown (get_or c.in-Some.others.now c.loop-value.value-index value)) c.write-in-loop-value.new.self =
-    rw (← c.value-item.is) (c.in_ok-write-2.ensures.writes before.plain refl) in
+    let comma = c.in_ok-write_str-2.ensures.writes before.plain refl in
+    let here : HasWritten g.W.Write.write_str_gives c.loop-value.f (behind_comma g.T.ToJson.shown (get_or c.in-Some.others.now c.loop-value.value-index value)) c.write_json-in-loop-value.new.f =
+    rw (← c.value-item.is) (has_written_append _ _ _ _ _ _ comma (c.in_ok-write_json-2.ensures comma.plain refl)) in
     has_written_of_eq _ _ _ _ _ (one_more g.T.ToJson.shown c.in-Some.others.now c.loop-value.value-index value c.loop-value-test.true) (has_written_append _ _ _ _ _ _ before here)
 
 pub returns : goal.returns
 returns g c = λ plain ok.
-    let first = c.in_ok-write.ensures.writes plain refl in
+    let bracket = c.in_ok-write_str.ensures.writes plain refl in
+    let first = has_written_append _ _ _ _ _ _ bracket (c.in_ok-write_json.ensures bracket.plain refl) in
     let others = c.loop-value.invariant first.plain in
-    let last = c.write_str-2.ensures.writes others.plain ok in
+    let last = c.write_str-3.ensures.writes others.plain ok in
     let same = array_text g.T.ToJson.shown c.args.self.now.now c.in-Some.first.now c.in-Some.others.now c.loop-value.value-index c.loop-value-test.false c.in-Some.ensures.cases.0 in
     has_written_of_eq _ _ _ _ _ same (has_written_append _ _ _ _ _ _ first (has_written_append _ _ _ _ _ _ others last))
