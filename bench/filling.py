@@ -23,16 +23,17 @@ TABLES = {1: ("guarantees1", "lines1"), 3: ("guarantees2", "lines3")}
 
 class Shape:
     """What stands in a file: holders of these numbers, so many guarantees of each, with one code, and so many movements of each, all in one
-    state. A movement has so many lines, of so many cents each, which name the holder's guarantees by turns."""
+    state. A movement has so many lines, of so many cents each, which name the holder's guarantees by turns, each so many serials apart from
+    the one before."""
 
-    def __init__(self, guarantees=1, movements=0, lines=1, state="accepted", cents=5, numbers=(1,), mrn_of=lettered):
+    def __init__(self, guarantees=1, movements=0, lines=1, state="accepted", cents=5, numbers=(1,), mrn_of=lettered, apart=1):
         self.guarantees, self.movements, self.lines, self.state = guarantees, movements, lines, state
-        self.cents, self.numbers, self.mrn_of = cents, numbers, mrn_of
+        self.cents, self.numbers, self.mrn_of, self.apart = cents, numbers, mrn_of, apart
 
     def named_by(self, serial):
         """The serials of the guarantees that the lines of this movement name, in order."""
         first = (serial - 1) * self.lines
-        return [(first + it) % self.guarantees + 1 for it in range(self.lines)]
+        return [(first + it * self.apart) % self.guarantees + 1 for it in range(self.lines)]
 
     def used(self):
         """The amount in use on each guarantee of a holder, in order."""

@@ -131,6 +131,14 @@ CASES = [
 ]
 
 
+# A cost that is saved at the second size, 2, and the most that it may be of the cost at the first one, 1: guarantees that follow one
+# another are read together.
+SAVED = [
+    (Case("release of 90 lines, whose guarantees stand far apart or in a row", "file",
+          lambda size, mrn_of: Shape(540, 20, 90, mrn_of=mrn_of, apart=6 if size == 1 else 1), acts("ie029", RELEASE), False, 1, 1, 1), 0.9),
+]
+
+
 def streams_of(requests):
     """The bytes of requests, as many at once as a stream takes."""
     told = [f"{method} {target} HTTP/1.1\r\nContent-Length: {len(body)}\r\n\r\n{body}".encode() for method, target, body in requests]
