@@ -25,7 +25,7 @@ use Rattle.td_acts.specs.declared.rows.Loaded.{Loaded}
 use Rattle.td_commands.specs.Commands.{is_changing, Need, nothing, lodging, movement, status, release, all_movements, guarantee, all_guarantees}
 use Rattle.td_model.specs.Machine.{is_answer, has_known_lrn}
 use Rattle.td_acts.specs.Deciding.{IsLoaded, IsLookedUp, change_of, decision_at, if_row, touched}
-use Rattle.td_model.specs.Table.{is_back, listed, said_at, on_guarantee, on_movement, or_refuse, refuse_if}
+use Rattle.td_model.specs.Table.{is_back, said_at, on_guarantee, on_movement, or_refuse, refuse_if}
 
 abbrev verdict_of : Said → Change → Verdict
 verdict_of said change = record { said = said; change = change }

@@ -36,7 +36,7 @@ abbrev pub terms_alone : Guarantee × ℕ → Guarantee × ℕ
 terms_alone e = (without_codes e.0, e.1)
 
 -- What is needed is found in what was loaded as it is in the account, movements without lines and guarantees without
--- codes where none are needed.
+-- codes where none are needed. Of all movements, what a list shows of each is what was loaded.
 abbrev pub IsLookedUp : Account → Need → Loaded → Type 0
 IsLookedUp account nothing loaded = Unit {0}
 IsLookedUp account (lodging lrn lines) loaded =

@@ -16,7 +16,7 @@ pub enum Needs<'a> {
     Status(Mrn),
     /// The movement with an MRN, with its lines, their guarantees, and the amounts in use on them.
     Release(Mrn),
-    /// All movements, without their lines.
+    /// Of all movements, what a list shows: MRN, LRN and state.
     AllMovements,
     /// The guarantee with a GRN, and the amount in use on it.
     Guarantee(Grn),

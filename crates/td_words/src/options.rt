@@ -4,7 +4,7 @@ ghost use Rattle.clap.specs.Words.{app_of, rule_of, with_subcommand};
 ghost use Rattle.td_words.specs.Commands.{IsCommand, option_rule, row_shape};
 ghost use Rattle.td_words.specs.Words.{bare_app, program_app};
 
-use crate::table::{COMMANDS, CommandRow, Form, OptionRow};
+use crate::table::{CommandRow, Form, OptionRow, all_commands};
 use clap::{Arg, ArgAction, Command};
 use std::alloc::{AllocError, Global};
 
@@ -67,7 +67,7 @@ impl Usages {
     pub(crate) fn new(alloc: Global) -> Result<Usages, AllocError> {
         let mut program = String::new(alloc);
         let mut commands = Vec::new(alloc);
-        for row in COMMANDS {
+        for row in all_commands() {
             if !program.is_empty() {
                 program.push_str("\n")?;
                 program.push_str(INDENT)?;
@@ -166,7 +166,7 @@ pub(crate) fn program<'a>(alloc: Global, usages: &'a Usages) -> Result<Command<'
     with_commands(
         alloc,
         bare_program(alloc, &usages.program)?,
-        COMMANDS,
+        all_commands(),
         usages,
     )
 }

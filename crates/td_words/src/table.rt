@@ -1,6 +1,7 @@
 //! The table of the command line: each command with its options and its usage, and what help says of them.
-ghost use Rattle.std.specs.Prelude.{◌≡◌};
-ghost use Rattle.td_words.specs.Commands.{bounds_of, wanted_of};
+ghost use Rattle.std.specs.Prelude.{◌≡◌, map};
+ghost use Rattle.td_words.specs.Commands.{bounds_of, row_shape, wanted_of};
+ghost use Rattle.td_words.specs.Words.{commands};
 
 use std::fmt;
 
@@ -247,8 +248,8 @@ const BATCH_USAGE: &[Part] = &[
     Part::One(AT),
 ];
 
-/// The commands, in the order in which help lists them.
-pub(crate) const COMMANDS: &[CommandRow] = &[
+// The rows of the commands.
+const COMMANDS: &[CommandRow] = &[
     CommandRow {
         name: "serve",
         about: "Serves connections to a port of this machine, one after another",
@@ -349,6 +350,13 @@ pub(crate) const COMMANDS: &[CommandRow] = &[
         usage: &[Part::One(COUNTRY), Part::One(JOINED_DB), Part::One(WITH)],
     },
 ];
+
+/// The commands, in the order in which help lists them.
+pub(crate) fn all_commands() -> &'static [CommandRow]
+    ensures { map row_shape result.now ≡ commands }
+{
+    COMMANDS
+}
 
 impl OptionRow {
     /// What its value must be. A flag has its value from `clap`.

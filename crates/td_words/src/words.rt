@@ -10,8 +10,8 @@ ghost use Rattle.td_words.specs.Words.{AreRecords, AskForHelpOfHelp, AsksFor, Is
 
 use crate::options::{Usages, program};
 use crate::table::{
-    AT, COMMANDS, CONNECTIONS, COUNTRY, DAY, DB, FILE, FIRST, HOLDERS, IDLE, INTO, JOURNAL, KIND,
-    NEW, OptionRow, PART, PORT, WITH, Wanted,
+    AT, CONNECTIONS, COUNTRY, DAY, DB, FILE, FIRST, HOLDERS, IDLE, INTO, JOURNAL, KIND, NEW,
+    OptionRow, PART, PORT, WITH, Wanted, all_commands,
 };
 use ascii_text::is_digits;
 use clap::ArgMatches;
@@ -267,7 +267,7 @@ fn value_refused(words: &[String]) -> Option<(OptionRow, &str)> {
 // The option that a word names, of whichever command.
 fn option_named(word: &str) -> Option<OptionRow> {
     let name = word.strip_prefix("--")?;
-    for command in COMMANDS {
+    for command in all_commands() {
         for option in command.options {
             if option.name == name {
                 return Some(*option);
