@@ -12,3 +12,5 @@ mod BatchesAlike
 mod Parts
 mod GoOn
 mod Upgrades
+mod WorkTold
+mod WorkSaid

@@ -1,6 +1,7 @@
 -- A file of rows, done at a desk, and what was told of it.
-use Rattle.std.specs.Prelude.{◌≡◌, ◌⊎◌, ℕ, List, Option, Some, None, Result, Ok, Err, if◌then◌else◌}
+use Rattle.std.specs.Prelude.{◌≡◌, ◌⊎◌, ℕ, List, Some, None, Result, Ok, Err, if◌then◌else◌}
 use Rattle.td_commands.specs.declared.command.Command.{Command}
+use Rattle.td_desk.specs.View.{DeskView}
 use Rattle.td_files.specs.declared.desks.DeskFault.{DeskFault}
 use Rattle.td_batch_rows.specs.declared.fault.BatchFault.{BatchFault}
 use Rattle.td_batch_rows.specs.Rows.{Tells}
@@ -25,13 +26,14 @@ module _ (lent : Lent) where
 
   -- Rows were done at the office's desk whose records stand there, and which keeps this journal, if one is named; at the office's moment or
   -- at one of the machine's clock. What became of them was told; or there was no desk, and the clock wasn't asked.
+  abbrev pub DoesRows : NamedDesk → BatchKind → List Command → World lent → World lent → (D : Type 0) → DeskView D → D → D → BatchRun → Type 0
+  DoesRows desk which commands old new D view opened left r =
+      HasDoneRows view lent.machine.ticks desk.office.at which commands (with_machine opened old.machine) (with_machine left new.machine) r
+
   abbrev pub IsBatchAtDesk : NamedDesk → BatchKind → List Command → World lent → World lent → ℕ → Type 0
   IsBatchAtDesk desk which commands old new status =
       (end : Result BatchRun DeskFault)
-      × WithJournal lent desk
-      (λ D view opened left r. HasDoneRows view lent.machine.ticks desk.office.at which commands
-      (with_machine opened old.machine) (with_machine left new.machine) r)
-      (new.machine ≡ old.machine) old new end
+      × WithJournal lent desk (DoesRows desk which commands old new) (new.machine ≡ old.machine) old new end
       × IsBatchTold end old new status
 
   -- What came of the bytes of a file. They aren't wholly rows: then nothing was printed, the clock wasn't asked, and neither the desk's

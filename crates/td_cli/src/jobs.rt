@@ -1,6 +1,7 @@
 //! The jobs of the program.
 ghost use Rattle.std.specs.Prelude.{map, string_bytes};
-ghost use Rattle.td_cli.specs.Performed.{IsJobDone, IsPerformed, IsTaskDone};
+ghost use Rattle.td_cli.specs.Done.{IsJobDone, IsTaskDone};
+ghost use Rattle.td_cli.specs.Performed.{IsPerformed};
 ghost use Rattle.td_cli.specs.World.{IsLentStill, lent_by, world_of};
 
 use crate::context::{Context, JobContext};

@@ -1,3 +1,3 @@
-mod Ready
-mod Followed
+pub mod Ready
+pub mod Followed
 mod Kept
