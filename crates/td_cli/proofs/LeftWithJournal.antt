@@ -53,6 +53,14 @@ module _ {End : Type 0} (did said : (D : Type 0) → DeskView D → D → D → 
         → beside × WithJournal lent desk said other_untouched old new end
     with_parted end is = parted_at desk.journal end is
 
+-- what is done says more by itself
+pub with_more : {End : Type 0} (lent : Lent) (desk : NamedDesk) (old new : World lent) (did said : (D : Type 0) → DeskView D → D → D → End → Type 0) (untouched : Type 0)
+    → ((D : Type 0) (view : DeskView D) (opened left : D) (end : End) → did D view opened left end → said D view opened left end)
+    → (end : Result End DeskFault) → WithJournal lent desk did untouched old new end → WithJournal lent desk said untouched old new end
+with_more lent desk old new did said untouched says end is =
+    (with_parted did said (Unit {0}) untouched untouched (λ D view opened left end done. (tt, says D view opened left end done)) (λ left. (tt, left))
+    lent desk old new end is).1
+
 module _ {End : Type 0} (lent : Lent) (desk : NamedDesk) (old new later : World lent)
     (file_is : later.file ≡ new.file) (other_is : later.other ≡ new.other) where
   later_at : (did : (D : Type 0) → DeskView D → D → D → End → Type 0) (untouched : Type 0) (journal : Option (List ℕ)) (end : Result End DeskFault)

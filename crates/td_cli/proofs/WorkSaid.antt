@@ -1,5 +1,5 @@
--- What a job's work is told to be, wherever the desk's records stand: each desk is ready as the job begins.
-use Rattle.std.proofs.Common.{◌≡◌, ℕ, List, true, false, Bool, Option, None, Some, Result, Ok, Err, sym, subst, inl, inr}
+-- The work of a job keeps the headline, wherever the desk's records stand: each desk is ready as the job begins.
+use Rattle.std.proofs.Common.{ℕ, List, true, false, Bool, Option, None, Some, Result, Ok, Err, sym, subst, inl, inr}
 use Rattle.std.specs.Prelude.{option_map, string_bytes}
 use Rattle.http_wire.specs.declared.stream.StreamEnd.{StreamEnd}
 use Rattle.sqlite.specs.Files.{image_of}
@@ -12,17 +12,14 @@ use Rattle.td_desk.specs.declared.plain.PlainDesk.{PlainDesk}
 use Rattle.td_files.specs.Found.{FileHeld, FileSeen, over_file}
 use Rattle.td_files.specs.declared.desks.DeskFault.{DeskFault}
 use Rattle.td_jobs.specs.Desks.{BeginsEmpty, IsReady, in_memory}
-use Rattle.td_jobs.specs.Jobs.{with_machine}
 use Rattle.td_jobs.specs.Listening.{without_input}
 use Rattle.td_jobs.specs.declared.serving.ServingEnd.{ServingEnd}
 use Rattle.td_journal.specs.Journaled.{journaled}
-use Rattle.td_journal.specs.declared.desk.JournaledDesk.{JournaledDesk}
 use Rattle.td_journal_jobs.proofs.Ready.{begun_ready}
 use Rattle.td_journal_jobs.specs.Journaling.{DeskAndFile, HasJournaled, HasJournaledTo}
 use Rattle.td_journal_lines.specs.Lines.{Numbered}
 use Rattle.td_journal_start.specs.declared.refused.StartFault.{StartFault}
 use Rattle.td_machine.specs.Drive.{KnownDrive}
-use Rattle.td_replay.specs.Replays.{IsReplayOf}
 use Rattle.td_replay.specs.declared.following.FollowFault.{FollowFault}
 use Rattle.td_words.specs.Words.{AsksFor}
 use Rattle.td_words.specs.declared.words.BatchKind.{BatchKind}
@@ -35,19 +32,17 @@ use Rattle.td_words.specs.declared.words.Records.TheVariants.{Memory, File, NewF
 use Rattle.td_words.specs.declared.words.Task.{Task}
 use Rattle.td_words.specs.declared.words.Task.TheVariants.{Serve, Pipe, Batch, Replay, Report, Check}
 use Rattle.td_cli.specs.AtDesk.{AtDesk}
-use Rattle.td_cli.specs.Batched.{AreRowsBatched, DoesRows, IsBatchAtDesk, IsBatched}
-use Rattle.td_cli.specs.Done.{IsDoneAsAsked, IsJobDone, IsTaskDone}
+use Rattle.td_cli.specs.Batched.{IsBatchAtDesk, IsBatched}
 use Rattle.td_cli.specs.Journaled.{NamedDesk, WithJournal, WithJournalAt, named_desk}
 use Rattle.td_cli.specs.Parts.{Part}
-use Rattle.td_cli.specs.Performed.{IsPerformed}
-use Rattle.td_cli.specs.Replayed.{AreRowsReplayed, IsJournalReplayed, IsReplayAtDesk}
-use Rattle.td_cli.specs.Served.{DoesPipe, DoesServe, DoesStandBy, IsServing, IsServingDone, PipesAs, ServesAfter, StandsBy, server_at}
-use Rattle.td_cli.specs.WorkDone.{BatchSays, BatchedSays, JobSays, PipeSays, ReplaySays, ReplayedSays, RowsAgainSay, RowsSay, ServingDoneSays, ServingSays, StandbySays, TaskSays, WorkSays}
-use Rattle.td_cli.specs.WorkOf.{AtDeskSays, JournaledSays, WithJournalAtSays, WithJournalSays, parts_listened}
-use Rattle.td_cli.specs.Worked.{IfClean, IsCoveredWork, IsPrivateWork, Work}
-use Rattle.td_cli.specs.World.{IsIdle, Lent, World, job_at, known_job}
+use Rattle.td_cli.specs.Performed.{IsDoneAsAsked, IsJobDone, IsPerformed, IsTaskDone}
+use Rattle.td_cli.specs.Replayed.{IsJournalReplayed, IsReplayAtDesk}
+use Rattle.td_cli.specs.Served.{IsServing, PipesAs, ServesAfter, StandsBy, server_at}
+use Rattle.td_cli.specs.WorkOf.{parts_listened}
+use Rattle.td_cli.specs.Worked.{AnyWork, IfClean, KeepsHeadline}
+use Rattle.td_cli.specs.World.{Lent, World, job_at, known_job}
 use Rattle.td_cli.proofs.Desks.{kept_ready, made_ready}
-use Rattle.td_cli.proofs.WorkTold.{IsWorkTold, after_told, batch_told, covered_work, listened_back, listened_told, pipe_told, private_work, replay_told}
+use Rattle.td_cli.proofs.WorkTold.{IsWorkTold, after_told, batch_told, headline, listened_back, listened_told, pipe_told, replay_told}
 
 -- ---- at a desk
 
@@ -57,158 +52,158 @@ empty_ready country d form empty clean =
     let sound : IsSound (empty_content country) = record { country = form; order = tt; holders = tt } in
     (tt, subst IsSound (sym empty) sound)
 
-module _ {End : Type 0} (did : (D : Type 0) → DeskView D → D → D → End → Type 0)
-    (says : (D : Type 0) (view : DeskView D) (opened left : D) (end : End) → did D view opened left end → Type 0)
-    (said : (D : Type 0) (view : DeskView D) (opened left : D) (end : End) (done : did D view opened left end) → IsReady view opened → says D view opened left end done) where
-  pub at_desk_said : {V S : Type 0} {disk : Ghosts S} (drive : KnownDrive V S) (country : List ℕ) (untouched : Type 0) (before file : FileHeld V disk)
-      → IsCountry country → (records : Records) (end : Result End DeskFault) (at : AtDesk drive country records did untouched before file end)
-      → AtDeskSays did says drive country untouched before file records end at
-  at_desk_said drive country untouched before file form Memory (Ok end) at =
-      said PlainDesk in_memory at.0.0 at.0.1 end at.0.3 (empty_ready country at.0.0 form at.0.2)
-  at_desk_said {S = S} {disk = disk} drive country untouched before file form (File path) (Ok end) at =
+module _ {End : Type 0} (did said : (D : Type 0) → DeskView D → D → D → End → Type 0)
+    (says : (D : Type 0) (view : DeskView D) (opened left : D) (end : End) → IsReady view opened → did D view opened left end → said D view opened left end) where
+  at_desk_as : {V S : Type 0} {disk : Ghosts S} (drive : KnownDrive V S) (country : List ℕ) (untouched : Type 0) (before file : FileHeld V disk)
+      → IsCountry country → (records : Records) (end : Result End DeskFault)
+      → AtDesk drive country records did untouched before file end → AtDesk drive country records said untouched before file end
+  at_desk_as drive country untouched before file form Memory (Ok end) at =
+      ((at.0.0, at.0.1, at.0.2, says PlainDesk in_memory at.0.0 at.0.1 end (empty_ready country at.0.0 form at.0.2) at.0.3), at.1)
+  at_desk_as {S = S} {disk = disk} drive country untouched before file form (File path) (Ok end) at =
       let (files, opens, kept) = at.4 in
-      said (FileSeen disk) over_file at.0 at.1 end at.5 (kept_ready (image_of disk files) country at.0 kept)
-  at_desk_said {S = S} {disk = disk} drive country untouched before file form (NewFile path) (Ok end) at =
+      (at.0, at.1, at.2, at.3, at.4, says (FileSeen disk) over_file at.0 at.1 end (kept_ready (image_of disk files) country at.0 kept) at.5)
+  at_desk_as {S = S} {disk = disk} drive country untouched before file form (NewFile path) (Ok end) at =
       let (files, opens, made) = at.4 in
-      said (FileSeen disk) over_file at.0 at.1 end at.5 (made_ready (image_of disk files) country at.0 made)
-  at_desk_said drive country untouched before file form Memory (Err why) at = tt
-  at_desk_said drive country untouched before file form (File path) (Err why) at = tt
-  at_desk_said drive country untouched before file form (NewFile path) (Err why) at = tt
+      (at.0, at.1, at.2, at.3, at.4, says (FileSeen disk) over_file at.0 at.1 end (made_ready (image_of disk files) country at.0 made) at.5)
+  at_desk_as drive country untouched before file form Memory (Err why) at = at
+  at_desk_as drive country untouched before file form (File path) (Err why) at = at
+  at_desk_as drive country untouched before file form (NewFile path) (Err why) at = at
 
-  journaled_said : {D F : Type 0} (g : Ghosts F) (view : DeskView D) (untouched : Type 0) (old new : DeskAndFile D F) → IsReady view old.desk
-      → (end : Result End StartFault) (is : HasJournaledTo g view did untouched old new end) → JournaledSays did says g view untouched old new end is
-  journaled_said {D} {F} g view untouched old new ready (Ok end) is =
-      said (JournaledDesk D F g) (journaled view) is.0 is.1 end is.3 (begun_ready view old.desk old.file is.0 is.2 ready)
-  journaled_said g view untouched old new ready (Err why) is = tt
+  journaled_as : {D F : Type 0} (g : Ghosts F) (view : DeskView D) (untouched : Type 0) (old new : DeskAndFile D F) → IsReady view old.desk
+      → (end : Result End StartFault) → HasJournaledTo g view did untouched old new end → HasJournaledTo g view said untouched old new end
+  journaled_as g view untouched old new ready (Ok end) (begun, stopped, begins, done, desk, is) =
+      (begun, stopped, begins, says _ (journaled view) begun stopped end (begun_ready view old.desk old.file begun begins ready) done, desk, is)
+  journaled_as g view untouched old new ready (Err why) is = is
 
-module _ {End : Type 0} (lent : Lent) (desk : NamedDesk) (did : (D : Type 0) → DeskView D → D → D → End → Type 0)
-    (says : (D : Type 0) (view : DeskView D) (opened left : D) (end : End) → did D view opened left end → Type 0)
-    (said : (D : Type 0) (view : DeskView D) (opened left : D) (end : End) (done : did D view opened left end) → IsReady view opened → says D view opened left end done)
+module _ {End : Type 0} (lent : Lent) (desk : NamedDesk) (did said : (D : Type 0) → DeskView D → D → D → End → Type 0)
+    (says : (D : Type 0) (view : DeskView D) (opened left : D) (end : End) → IsReady view opened → did D view opened left end → said D view opened left end)
     (untouched : Type 0) (old new : World lent) (form : IsCountry desk.office.country) where
-  with_said_at : (journal : Option (List ℕ)) (end : Result End DeskFault) (is : WithJournalAt lent desk journal did untouched old new end)
-      → WithJournalAtSays lent desk did says untouched old new journal end is
-  with_said_at None end is = at_desk_said did says said lent.drive desk.office.country untouched old.file new.file form desk.records end is.1
-  with_said_at (Some path) end (inl none) = tt
-  with_said_at (Some path) end (inr at) =
-      at_desk_said (λ D view begun left ended. HasJournaled lent.other_disk view begun left at.journal did untouched ended)
-      (λ D view begun left ended is. JournaledSays did says lent.other_disk view untouched
-      (record { desk = begun; file = at.journal }) (record { desk = left; file = ended.file }) ended.end is)
-      (λ D view begun left ended is ready. journaled_said did says said lent.other_disk view untouched
-      (record { desk = begun; file = at.journal }) (record { desk = left; file = ended.file }) ready ended.end is)
-      lent.drive desk.office.country untouched old.file new.file form desk.records at.ended at.done
+  with_as_at : (journal : Option (List ℕ)) (end : Result End DeskFault) → WithJournalAt lent desk journal did untouched old new end
+      → WithJournalAt lent desk journal said untouched old new end
+  with_as_at None end is = (is.0, at_desk_as did said says lent.drive desk.office.country untouched old.file new.file form desk.records end is.1)
+  with_as_at (Some path) end (inl none) = inl none
+  with_as_at (Some path) end (inr at) = inr (record {
+    journal = at.journal;
+    opened = at.opened;
+    at = at.at;
+    ended = at.ended;
+    done = at_desk_as (λ D view begun left ended. HasJournaled lent.other_disk view begun left at.journal did untouched ended)
+        (λ D view begun left ended. HasJournaled lent.other_disk view begun left at.journal said untouched ended)
+        (λ D view begun left ended ready is. journaled_as did said says lent.other_disk view untouched
+        (record { desk = begun; file = at.journal }) (record { desk = left; file = ended.file }) ready ended.end is)
+        lent.drive desk.office.country untouched old.file new.file form desk.records at.ended at.done;
+    file_is = at.file_is;
+    drive_is = at.drive_is;
+    connection = at.connection;
+    unopened = at.unopened;
+    end_is = at.end_is;
+  })
 
-  pub with_said : (end : Result End DeskFault) (is : WithJournal lent desk did untouched old new end)
-      → WithJournalSays lent desk did says untouched old new end is
-  with_said end is = with_said_at desk.journal end is
+  with_as : (end : Result End DeskFault) → WithJournal lent desk did untouched old new end → WithJournal lent desk said untouched old new end
+  with_as end is = with_as_at desk.journal end is
 
 -- ---- each job
 
-module _ (lent : Lent) (Says : Work → Type 0) (says : (work : Work) → IsWorkTold work → Says work) where
-  -- what is shown of work is said of it
-  clean_says : {D : Type 0} (view : DeskView D) (opened left : D) (parts : List Part) → (IsReady view opened → IfClean IsWorkTold view opened left parts)
-      → IsReady view opened → IfClean Says view opened left parts
-  clean_says view opened left parts shows ready clean = says _ (shows ready clean)
+-- what is shown of work is the headline
+keeps : {D : Type 0} (view : DeskView D) (opened left : D) (parts : List Part) → (IsReady view opened → IfClean IsWorkTold view opened left parts)
+    → IsReady view opened → IfClean KeepsHeadline view opened left parts
+keeps view opened left parts shows ready clean = headline _ (shows ready clean)
 
-  pipe_said : (desk : NamedDesk) (old new : World lent) → IsCountry desk.office.country → (end : Result StreamEnd DeskFault)
-      (is : PipesAs lent desk old new end) → PipeSays lent Says desk old new end is
-  pipe_said desk old new form end is =
-      with_said lent desk (DoesPipe lent desk old new) _
-      (λ D view opened left end piped. clean_says view opened left _
-      (pipe_told view (known_job lent) desk.office.at (job_at lent opened old) (job_at lent left new) end piped))
-      (IsIdle lent old new) old new form end is
+module _ (lent : Lent) where
+  pipe_keeps : (desk : NamedDesk) (old new : World lent) → IsCountry desk.office.country → (end : Result StreamEnd DeskFault)
+      → PipesAs lent AnyWork desk old new end → PipesAs lent KeepsHeadline desk old new end
+  pipe_keeps desk old new form end is =
+      with_as lent desk _ _
+      (λ D view opened left end ready (piped, any). (
+        piped,
+        keeps view opened left _ (pipe_told view (known_job lent) desk.office.at (job_at lent opened old) (job_at lent left new) end piped) ready,
+      ))
+      _ old new form end is
 
-  serving_said : (desk : NamedDesk) (listening : Listening) (old new : World lent) → IsCountry desk.office.country → (end : Result ServingEnd DeskFault)
-      (is : IsServing lent desk listening old new end) → ServingSays lent Says desk listening old new end is
-  serving_said desk listening old new form end is =
-      with_said lent desk (DoesServe lent desk listening old new) _
-      (λ D view opened left end served. clean_says view opened left _
-      (listened_told view lent.output lent.machine desk.office.at listening end (server_at lent opened old) (server_at lent left new) served.1))
-      (IsIdle lent old new) old new form end is
+  serving_keeps : (desk : NamedDesk) (listening : Listening) (old new : World lent) → IsCountry desk.office.country → (end : Result ServingEnd DeskFault)
+      → IsServing lent AnyWork desk listening old new end → IsServing lent KeepsHeadline desk listening old new end
+  serving_keeps desk listening old new form end is =
+      with_as lent desk _ _
+      (λ D view opened left end ready (unread, served, any). (
+        unread,
+        served,
+        keeps view opened left _ (listened_told view (known_job lent) desk.office.at listening end (server_at lent opened old) (server_at lent left new) served) ready,
+      ))
+      _ old new form end is
 
-  standby_said : (desk : NamedDesk) (listening : Listening) (old new : World lent) → IsCountry desk.office.country
-      → (end : Result (Result ServingEnd FollowFault) DeskFault) (is : StandsBy lent desk listening old new end)
-      → StandbySays lent Says desk listening old new end is
-  standby_said desk listening old new form end is =
-      with_said lent desk (DoesStandBy lent desk listening old new) _
-      (λ D view opened left end stood. clean_says view opened left _
-      (after_told view lent.input (job_at lent opened old) (job_at lent left new) (ServesAfter lent desk listening view left new)
-      (λ begun end served. parts_listened view lent.output lent.machine desk.office.at listening end (without_input begun) (server_at lent left new) served.1)
-      (λ begun end served. listened_told view lent.output lent.machine desk.office.at listening end (without_input begun) (server_at lent left new) served.1)
-      (λ begun end served. listened_back view lent.output lent.machine desk.office.at listening end (without_input begun) (server_at lent left new) served.1)
-      end stood))
-      (IsIdle lent old new) old new form end is
+  standby_keeps : (desk : NamedDesk) (listening : Listening) (old new : World lent) → IsCountry desk.office.country
+      → (end : Result (Result ServingEnd FollowFault) DeskFault) → StandsBy lent AnyWork desk listening old new end
+      → StandsBy lent KeepsHeadline desk listening old new end
+  standby_keeps desk listening old new form end is =
+      with_as lent desk _ _
+      (λ D view opened left end ready (stood, any). (
+        stood,
+        keeps view opened left _
+            (after_told view lent.input (job_at lent opened old) (job_at lent left new) (ServesAfter lent desk listening view left new)
+            (λ begun end served. parts_listened view (known_job lent) desk.office.at listening end (without_input begun) (server_at lent left new) served.1)
+            (λ begun end served. listened_told view (known_job lent) desk.office.at listening end (without_input begun) (server_at lent left new) served.1)
+            (λ begun end served. listened_back view (known_job lent) desk.office.at listening end (without_input begun) (server_at lent left new) served.1)
+            end stood)
+            ready,
+      ))
+      _ old new form end is
 
-  serving_done_said : (first : Bool) (desk : NamedDesk) (listening : Listening) (old new : World lent) (status : ℕ) → IsCountry desk.office.country
-      → (done : IsServingDone lent first desk listening old new status) → ServingDoneSays lent Says first desk listening old new status done
-  serving_done_said false desk listening old new status form done = serving_said desk listening old new form done.0 done.1
-  serving_done_said true desk listening old new status form done = standby_said desk listening old new form done.0 done.1
+  batch_keeps : (desk : NamedDesk) (which : BatchKind) (commands : List Command) (old new : World lent) (status : ℕ) → IsCountry desk.office.country
+      → IsBatchAtDesk lent AnyWork desk which commands old new status → IsBatchAtDesk lent KeepsHeadline desk which commands old new status
+  batch_keeps desk which commands old new status form (end, done, told) = (
+    end,
+    with_as lent desk _ _
+        (λ D view opened left r ready (rows, any). (rows, keeps view opened left _ (batch_told view rows.moment commands r opened left rows.ran) ready))
+        _ old new form end done,
+    told,
+  )
 
-  batch_said : (desk : NamedDesk) (which : BatchKind) (commands : List Command) (old new : World lent) (status : ℕ) → IsCountry desk.office.country
-      → (done : IsBatchAtDesk lent desk which commands old new status) → BatchSays lent Says desk which commands old new status done
-  batch_said desk which commands old new status form done =
-      with_said lent desk (DoesRows lent desk which commands old new) _
-      (λ D view opened left r rows. clean_says view opened left _
-      (batch_told view lent.machine.ticks desk.office.at which commands (with_machine opened old.machine) (with_machine left new.machine) r rows))
-      (new.machine ≡ old.machine) old new form done.0 done.1
+  batched_keeps : (desk : NamedDesk) (which : BatchKind) (csv : List ℕ) (old new : World lent) (status : ℕ) → IsCountry desk.office.country
+      → IsBatched lent AnyWork desk which csv old new status → IsBatched lent KeepsHeadline desk which csv old new status
+  batched_keeps desk which csv old new status form (unread, inl none) = (unread, inl none)
+  batched_keeps desk which csv old new status form (unread, inr (bytes, read, has, inl none)) = (unread, inr (bytes, read, has, inl none))
+  batched_keeps desk which csv old new status form (unread, inr (bytes, read, has, inr (commands, are, done))) =
+      (unread, inr (bytes, read, has, inr (commands, are, batch_keeps desk which commands (record old { machine = read }) new status form done)))
 
-  rows_said : (desk : NamedDesk) (which : BatchKind) (bytes : List ℕ) (old new : World lent) (status : ℕ) → IsCountry desk.office.country
-      → (done : AreRowsBatched lent desk which bytes old new status) → RowsSay lent Says desk which bytes old new status done
-  rows_said desk which bytes old new status form (inl none) = tt
-  rows_said desk which bytes old new status form (inr done) = batch_said desk which done.0 old new status form done.2
+  replay_keeps : (desk : NamedDesk) (numbered : List Numbered) (old new : World lent) (status : ℕ) → IsCountry desk.office.country
+      → IsReplayAtDesk lent AnyWork desk numbered old new status → IsReplayAtDesk lent KeepsHeadline desk numbered old new status
+  replay_keeps desk numbered old new status form (end, done, told) = (
+    end,
+    at_desk_as _ _ (λ D view opened left run ready (replayed, any). (replayed, keeps view opened left _ (replay_told view numbered run opened left replayed) ready))
+        lent.drive desk.office.country (Unit {0}) old.file new.file form desk.records end done,
+    told,
+  )
 
-  batched_said : (desk : NamedDesk) (which : BatchKind) (csv : List ℕ) (old new : World lent) (status : ℕ) → IsCountry desk.office.country
-      → (done : IsBatched lent desk which csv old new status) → BatchedSays lent Says desk which csv old new status done
-  batched_said desk which csv old new status form (unread, inl none) = tt
-  batched_said desk which csv old new status form (unread, inr (bytes, read, has, done)) =
-      rows_said desk which bytes (record old { machine = read }) new status form done
+  replayed_keeps : (desk : NamedDesk) (csv : List ℕ) (part : Bool) (old new : World lent) (status : ℕ) → IsCountry desk.office.country
+      → IsJournalReplayed lent AnyWork desk csv part old new status → IsJournalReplayed lent KeepsHeadline desk csv part old new status
+  replayed_keeps desk csv part old new status form (inl none) = inl none
+  replayed_keeps desk csv part old new status form (inr (bytes, read, has, (opens, inl none))) = inr (bytes, read, has, (opens, inl none))
+  replayed_keeps desk csv part old new status form (inr (bytes, read, has, (opens, inr (numbered, are, done)))) =
+      inr (bytes, read, has, (opens, inr (numbered, are, replay_keeps desk numbered (record old { machine = read }) new status form done)))
 
-  replay_said : (country : List ℕ) (records : Records) (numbered : List Numbered) (old new : World lent) (status : ℕ) → IsCountry country
-      → (done : IsReplayAtDesk lent country records numbered old new status) → ReplaySays lent Says country records numbered old new status done
-  replay_said country records numbered old new status form done =
-      at_desk_said (λ D view opened left run. IsReplayOf view numbered run opened left) _
-      (λ D view opened left run replayed. clean_says view opened left _ (replay_told view numbered run opened left replayed))
-      lent.drive country (Unit {0}) old.file new.file form records done.0 done.1
+  task_keeps : (office : Office) (task : Task) (old new : World lent) (status : ℕ) → IsCountry office.country
+      → IsTaskDone lent AnyWork office task old new status → IsTaskDone lent KeepsHeadline office task old new status
+  task_keeps office (Pipe records journal) old new status form (end, pipes, ended) =
+      (end, pipe_keeps (named_desk office records (option_map string_bytes journal)) old new form end pipes, ended)
+  task_keeps office (Serve listening records journal false) old new status form (end, serves, ended) =
+      (end, serving_keeps (named_desk office records (option_map string_bytes journal)) listening old new form end serves, ended)
+  task_keeps office (Serve listening records journal true) old new status form (end, stands, ended) =
+      (end, standby_keeps (named_desk office records (option_map string_bytes journal)) listening old new form end stands, ended)
+  task_keeps office (Batch which csv path journal) old new status form done =
+      batched_keeps (named_desk office (File path) (option_map string_bytes journal)) which (string_bytes csv) old new status form done
+  task_keeps office (Replay csv part records) old new status form done =
+      replayed_keeps (named_desk office records None) (string_bytes csv) part old new status form done
+  task_keeps office (Report kind path) old new status form done = done
+  task_keeps office (Check path) old new status form done = done
 
-  again_said : (country : List ℕ) (records : Records) (bytes : List ℕ) (part : Bool) (old new : World lent) (status : ℕ) → IsCountry country
-      → (done : AreRowsReplayed lent country records bytes part old new status) → RowsAgainSay lent Says country records bytes part old new status done
-  again_said country records bytes part old new status form (opens, inl none) = tt
-  again_said country records bytes part old new status form (opens, inr done) = replay_said country records done.0 old new status form done.2
+  job_keeps : (words : List (List ℕ)) (asked : Job) (old new : World lent) (status : ℕ) → AsksFor words asked
+      → IsJobDone lent AnyWork asked old new status → IsJobDone lent KeepsHeadline asked old new status
+  job_keeps words (job.AtDesk office task) old new status asks done = task_keeps office task old new status asks.is.1.country.form done
+  job_keeps words (job.Migrate path) old new status asks done = done
+  job_keeps words (job.Transfer country what) old new status asks done = done
 
-  replayed_said : (country : List ℕ) (records : Records) (csv : List ℕ) (part : Bool) (old new : World lent) (status : ℕ) → IsCountry country
-      → (done : IsJournalReplayed lent country records csv part old new status) → ReplayedSays lent Says country records csv part old new status done
-  replayed_said country records csv part old new status form (inl none) = tt
-  replayed_said country records csv part old new status form (inr (bytes, read, has, done)) =
-      again_said country records bytes part (record old { machine = read }) new status form done
-
-  task_said : (office : Office) (task : Task) (old new : World lent) (status : ℕ) → IsCountry office.country
-      → (done : IsTaskDone lent office task old new status) → TaskSays lent Says office task old new status done
-  task_said office (Pipe records journal) old new status form done =
-      pipe_said (named_desk office records (option_map string_bytes journal)) old new form done.0 done.1
-  task_said office (Serve listening records journal first) old new status form done =
-      serving_done_said first (named_desk office records (option_map string_bytes journal)) listening old new status form done
-  task_said office (Batch which csv path journal) old new status form done =
-      batched_said (named_desk office (File path) (option_map string_bytes journal)) which (string_bytes csv) old new status form done
-  task_said office (Replay csv part records) old new status form done = replayed_said office.country records (string_bytes csv) part old new status form done
-  task_said office (Report kind path) old new status form done = tt
-  task_said office (Check path) old new status form done = tt
-
-  job_said : (words : List (List ℕ)) (asked : Job) (old new : World lent) (status : ℕ) → AsksFor words asked
-      → (done : IsJobDone lent asked old new status) → JobSays lent Says asked old new status done
-  job_said words (job.AtDesk office task) old new status asks done = task_said office task old new status asks.is.1.country.form done
-  job_said words (job.Migrate path) old new status asks done = tt
-  job_said words (job.Transfer country what) old new status asks done = tt
-
-  -- it is said of what was done as the words ask
-  pub work_said : (words : List (List ℕ)) (old new : World lent) (status : ℕ) (done : IsDoneAsAsked lent words old new status)
-      → WorkSays lent Says words old new status done
-  work_said words old new status (inl (asked, asks, done)) = job_said words asked old new status asks done
-  work_said words old new status (inr none) = tt
-
--- so it is done with the headline
-pub performed : (lent : Lent) (words : List (List ℕ)) (old new : World lent) (status : ℕ) → IsDoneAsAsked lent words old new status
-    → IsPerformed lent words old new status
-performed lent words old new status done = record {
-  done = done;
-  private = work_said lent IsPrivateWork private_work words old new status done;
-  covered = work_said lent IsCoveredWork covered_work words old new status done;
-}
+  -- what is done as the words ask is done with the headline
+  pub performed : (words : List (List ℕ)) (old new : World lent) (status : ℕ) → IsDoneAsAsked lent AnyWork words old new status
+      → IsPerformed lent words old new status
+  performed words old new status (inl (asked, asks, done)) = inl (asked, asks, job_keeps words asked old new status asks done)
+  performed words old new status (inr none) = inr none

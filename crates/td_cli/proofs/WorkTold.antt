@@ -17,9 +17,8 @@ use Rattle.td_desk.specs.Content.{Content, IsSound, account_in, rows_of}
 use Rattle.td_desk.specs.Runs.{IsTied}
 use Rattle.td_desk.specs.View.{DeskView}
 use Rattle.td_desk.specs.declared.running.Outcome.{Outcome}
-use Rattle.td_jobs.specs.Batched.{HasDoneRows, header_of, result_line}
 use Rattle.td_jobs.specs.Desks.{BeginAlike, IsReady, fresh_books}
-use Rattle.td_jobs.specs.Jobs.{DeskAndMachine, JobState, KnownJob}
+use Rattle.td_jobs.specs.Jobs.{JobState, KnownJob}
 use Rattle.td_jobs.specs.Listening.{HasServed, HasServedAt, PrintingState, ServerState, ServesAs, ServesThere, ServingState, listening_from}
 use Rattle.td_jobs.specs.Piped.{IsPiped, IsPipedAt}
 use Rattle.td_jobs.specs.declared.serving.ServingEnd.{ServingEnd}
@@ -36,12 +35,10 @@ use Rattle.td_replay.specs.Replays.{IsDoneAt, IsEachDone, IsReplayOf, stamped_of
 use Rattle.td_replay.specs.declared.following.FollowFault.{FollowFault}
 use Rattle.td_replay.specs.declared.following.FollowFault.TheVariants.{BadRow, Misplaced, Differs, Unread, Failed}
 use Rattle.td_replay.specs.declared.replaying.ReplayRun.{ReplayRun}
-use Rattle.td_words.specs.declared.words.BatchKind.{BatchKind}
 use Rattle.td_words.specs.declared.words.Listening.{Listening}
-use Rattle.td_cli.specs.BatchLaws.{commands_tried, outcomes_tried}
 use Rattle.td_cli.specs.Parts.{ArePartsTold, Part, heard_of, machine_tells, rows, stream, told_of}
 use Rattle.td_cli.specs.WorkOf.{part_batched, part_followed, part_piped, part_replayed, parts_after, parts_failed, parts_listened, parts_served, parts_there}
-use Rattle.td_cli.specs.Worked.{AreCovered, IfClean, IsCoveredWork, IsPrivateWork, Work}
+use Rattle.td_cli.specs.Worked.{AreCovered, IfClean, KeepsHeadline, Work}
 use Rattle.td_cli.proofs.BatchesAlike.{no_run}
 use Rattle.td_cli.proofs.Desks.{fresh_tied}
 use Rattle.td_cli.proofs.Parts.{both_told, none_told, rows_told, streams_told, then_books}
@@ -52,9 +49,6 @@ pub record IsWorkTold (work : Work) : Type 0 where
   pub sound : IsSound work.begun
   pub told : (books : ℕ → Book) → IsTied work.begun books → (c : Content) × ArePartsTold work.begun.country books work.parts c
 
-pub private_work : (work : Work) → IsWorkTold work → IsPrivateWork work
-private_work work is books tied H = (is.told books tied).1.answers H
-
 -- a holder's rows are covered
 covered_with : (country : List ℕ) (found : Option HolderRows) → IfSome found (AreHolderRows country) → AreCovered (account_with country found)
 covered_with country None rules = tt
@@ -63,12 +57,16 @@ covered_with country (Some h) rules = rules.cover
 covered_in : (c : Content) (H : ℕ) → IsSound c → AreCovered (account_in H c)
 covered_in c H sound = covered_with c.country (rows_of H c) (All-row_at holder_key (AreHolderRows c.country) H c.holders sound.holders)
 
-pub covered_work : (work : Work) → IsWorkTold work → IsCoveredWork work
-covered_work work is books tied H =
-    let (c, told) = is.told books tied in (
-      subst AreCovered (tied.each H) (covered_in work.begun H is.sound),
-      subst AreCovered (told.tied.each H) (covered_in c H told.sound),
-    )
+-- so the work keeps the headline
+pub headline : (work : Work) → IsWorkTold work → KeepsHeadline work
+headline work is = record {
+  private = λ books tied H. (is.told books tied).1.answers H;
+  covered = λ books tied H.
+      let (c, told) = is.told books tied in (
+        subst AreCovered (tied.each H) (covered_in work.begun H is.sound),
+        subst AreCovered (told.tied.each H) (covered_in c H told.sound),
+      );
+}
 
 module _ {D : Type 0} (view : DeskView D) where
   -- what is shown of the work of a job at a desk that was ready
@@ -121,17 +119,17 @@ module _ {D : Type 0} (view : DeskView D) where
   served_back around (Some at) connections old new answer served = served.1.1.clean
   served_back around None connections old new answer served = served.clean
 
-  module _ {W M L Reads Writes : Type 0} (contents : W → Option (List ℕ)) (around : Around M L Reads Writes) (at : Option ℤ) (listening : Listening) where
-    there_told : (end : ServingEnd) (old new : PrintingState L M D W) → (serves : ServesThere view contents around at listening end old new)
-        → Shows old.serving.desk new.serving.desk (parts_there view contents around at listening end old new serves)
-    there_told Done old new serves = served_told around at listening.connections _ _ _ serves.1.1
+  module _ {R W M L Reads Writes : Type 0} (known : KnownJob R W M L Reads Writes) (at : Option ℤ) (listening : Listening) where
+    there_told : (end : ServingEnd) (old new : PrintingState L M D W) → (serves : ServesThere view known.contents known.around at listening end old new)
+        → Shows old.serving.desk new.serving.desk (parts_there view known at listening end old new serves)
+    there_told Done old new serves = served_told known.around at listening.connections _ _ _ serves.1.1
     there_told NoMemory old new serves = absurd serves
-    there_told Socket old new serves = served_told around at listening.connections _ _ _ serves.1.1
+    there_told Socket old new serves = served_told known.around at listening.connections _ _ _ serves.1.1
     there_told Write old new (inl cut) = unasked_told _ _ (ap (λ (s : ServingState L M D). s.desk) cut.1)
-    there_told Write old new (inr serves) = served_told around at listening.connections _ _ _ serves.1.1
+    there_told Write old new (inr serves) = served_told known.around at listening.connections _ _ _ serves.1.1
 
-    pub listened_told : (end : ServingEnd) (old new : ServerState D W M) → (serves : ServesAs view contents around at listening end old new)
-        → Shows old.desk new.desk (parts_listened view contents around at listening end old new serves)
+    pub listened_told : (end : ServingEnd) (old new : ServerState D W M) → (serves : ServesAs view known.contents known.around at listening end old new)
+        → Shows old.desk new.desk (parts_listened view known at listening end old new serves)
     listened_told Done old new (inl not) = absurd not
     listened_told NoMemory old new (inl not) = unasked_told _ _ (ap (λ (s : ServerState D W M). s.desk) not)
     listened_told Socket old new (inl not) = unasked_told _ _ not.1
@@ -140,15 +138,15 @@ module _ {D : Type 0} (view : DeskView D) where
         there_told end (listening_from listened.came listened.begun old) (listening_from listened.gone listened.ended new) listened.serves
 
     -- a desk that is clean in the end was so before
-    there_back : (end : ServingEnd) (old new : PrintingState L M D W) → ServesThere view contents around at listening end old new
+    there_back : (end : ServingEnd) (old new : PrintingState L M D W) → ServesThere view known.contents known.around at listening end old new
         → view.is_clean new.serving.desk → view.is_clean old.serving.desk
-    there_back Done old new serves = served_back around at listening.connections _ _ _ serves.1.1
+    there_back Done old new serves = served_back known.around at listening.connections _ _ _ serves.1.1
     there_back NoMemory old new serves = absurd serves
-    there_back Socket old new serves = served_back around at listening.connections _ _ _ serves.1.1
+    there_back Socket old new serves = served_back known.around at listening.connections _ _ _ serves.1.1
     there_back Write old new (inl cut) = λ clean. subst (λ (s : ServingState L M D). view.is_clean s.desk) cut.1 clean
-    there_back Write old new (inr serves) = served_back around at listening.connections _ _ _ serves.1.1
+    there_back Write old new (inr serves) = served_back known.around at listening.connections _ _ _ serves.1.1
 
-    pub listened_back : (end : ServingEnd) (old new : ServerState D W M) → ServesAs view contents around at listening end old new
+    pub listened_back : (end : ServingEnd) (old new : ServerState D W M) → ServesAs view known.contents known.around at listening end old new
         → view.is_clean new.desk → view.is_clean old.desk
     listened_back Done old new (inl not) = absurd not
     listened_back NoMemory old new (inl not) = λ clean. subst (λ (s : ServerState D W M). view.is_clean s.desk) not clean
@@ -176,15 +174,10 @@ module _ {D : Type 0} (view : DeskView D) where
             (view.content old, rows_told _ books [] [] (view.content old) (no_run _ books (view.content old) refl is.1 tied));
       }
 
-  pub batch_told : {M : Type 0} (ticks : M → ℤ → M → Type 0) (at : Option ℤ) (which : BatchKind) (commands : List Command)
-      (old new : DeskAndMachine D M) (r : BatchRun) → (done : HasDoneRows view ticks at which commands old new r)
-      → Shows old.desk new.desk (part_batched view ticks at which commands old new r done)
-  batch_told ticks at which commands old new r done = by done.ran
-    where
-      by : (ran : IsRunOf view (result_line which) (header_of which) done.moment commands r old.desk new.desk)
-          → Shows old.desk new.desk (rows (commands_tried done.moment commands r ran) (outcomes_tried done.moment commands r ran) ∷ [])
-      by (inl nothing) = none_ran_told old.desk new.desk nothing.0
-      by (inr ran) = ran_told done.moment commands r old.desk new.desk ran
+  pub batch_told : {line : Command → Said → List ℕ} {header : List ℕ} (at : ℤ) (commands : List Command) (r : BatchRun) (old new : D)
+      → (ran : IsRunOf view line header at commands r old new) → Shows old new (part_batched at commands r ran)
+  batch_told at commands r old new (inl nothing) = none_ran_told old new nothing.0
+  batch_told at commands r old new (inr ran) = ran_told at commands r old new ran
 
   each_clean : (each : List (Stamped × Outcome)) (old new : D) → FoldsTo (IsEachDone view) old each new → view.is_clean new → view.is_clean old
   each_clean [] old new steps clean = subst view.is_clean (sym steps) clean
@@ -279,13 +272,13 @@ module _ {D : Type 0} (view : DeskView D) where
       behind_followed old.desk new.desk new.desk stops.rows stops.followed.done [] ready (λ clean. clean) (λ clean. nothing_behind new.desk)
 
 -- two pieces of work at desks that began with the same of H tell H alike what they hear alike
-pub work_alike : (H : ℕ) (one other : Work) → IsPrivateWork one → IsPrivateWork other → BeginAlike one.begun.country H one.begun other.begun
+pub work_alike : (H : ℕ) (one other : Work) → KeepsHeadline one → KeepsHeadline other → BeginAlike one.begun.country H one.begun other.begun
     → heard_of one.begun.country H one.parts ≡ heard_of one.begun.country H other.parts
     → told_of one.begun.country H one.parts ≡ told_of one.begun.country H other.parts
 work_alike H one other first second alike same =
     let country = one.begun.country in
-    first (fresh_books one.begun) (fresh_tied one.begun) H
+    first.private (fresh_books one.begun) (fresh_tied one.begun) H
     ∙ ap (λ (book : Book). machine_tells H book (heard_of country H one.parts)) (ap fresh_book alike.2)
     ∙ ap (machine_tells H (fresh_books other.begun H)) same
     ∙ sym (subst (λ (k : List ℕ). told_of k H other.parts ≡ machine_tells H (fresh_books other.begun H) (heard_of k H other.parts)) alike.1
-    (second (fresh_books other.begun) (fresh_tied other.begun) H))
+    (second.private (fresh_books other.begun) (fresh_tied other.begun) H))

@@ -1,7 +1,6 @@
 -- A file of rows, done at a desk, and what was told of it.
 use Rattle.std.specs.Prelude.{◌≡◌, ◌⊎◌, ℕ, List, Some, None, Result, Ok, Err, if◌then◌else◌}
 use Rattle.td_commands.specs.declared.command.Command.{Command}
-use Rattle.td_desk.specs.View.{DeskView}
 use Rattle.td_files.specs.declared.desks.DeskFault.{DeskFault}
 use Rattle.td_batch_rows.specs.declared.fault.BatchFault.{BatchFault}
 use Rattle.td_batch_rows.specs.Rows.{Tells}
@@ -13,6 +12,8 @@ use Rattle.td_jobs.specs.Batched.{HasDoneRows, batch_rows_in}
 use Rattle.td_machine.specs.Machine.{HasRead, IsNotRead}
 use Rattle.td_machine.specs.declared.machine.ReadError.{ReadError}
 use Rattle.td_cli.specs.Journaled.{NamedDesk, WithJournal}
+use Rattle.td_cli.specs.WorkOf.{part_batched}
+use Rattle.td_cli.specs.Worked.{IfClean, Work}
 use Rattle.td_cli.specs.World.{Lent, World}
 use Rattle.td_cli.specs.Exits.{of_file, of_rows, of_read_error}
 use Rattle.td_cli.specs.Told.{IsResultTold, IsToldAlone}
@@ -24,17 +25,18 @@ module _ (lent : Lent) where
   IsBatchTold (Ok r) old new status = IsResultTold lent r.text.items r.stopped (if has_refusal r then Some RowsRefused else None) old new status
   IsBatchTold (Err why) old new status = IsToldAlone lent (Some (of_file why)) old new status
 
+module _ (lent : Lent) (Says : Work → Type 0) where
   -- Rows were done at the office's desk whose records stand there, and which keeps this journal, if one is named; at the office's moment or
   -- at one of the machine's clock. What became of them was told; or there was no desk, and the clock wasn't asked.
-  abbrev pub DoesRows : NamedDesk → BatchKind → List Command → World lent → World lent → (D : Type 0) → DeskView D → D → D → BatchRun → Type 0
-  DoesRows desk which commands old new D view opened left r =
-      HasDoneRows view lent.machine.ticks desk.office.at which commands (with_machine opened old.machine) (with_machine left new.machine) r
-
   abbrev pub IsBatchAtDesk : NamedDesk → BatchKind → List Command → World lent → World lent → ℕ → Type 0
   IsBatchAtDesk desk which commands old new status =
       (end : Result BatchRun DeskFault)
-      × WithJournal lent desk (DoesRows desk which commands old new) (new.machine ≡ old.machine) old new end
-      × IsBatchTold end old new status
+      × WithJournal lent desk
+      (λ D view opened left r. (done : HasDoneRows view lent.machine.ticks desk.office.at which commands
+      (with_machine opened old.machine) (with_machine left new.machine) r)
+      × IfClean Says view opened left (part_batched done.moment commands r done.ran))
+      (new.machine ≡ old.machine) old new end
+      × IsBatchTold lent end old new status
 
   -- What came of the bytes of a file. They aren't wholly rows: then nothing was printed, the clock wasn't asked, and neither the desk's
   -- file nor the other was opened. Or they are these rows, which were done at the desk.

@@ -11,13 +11,11 @@ pub mod Migrated
 pub mod Reported
 pub mod Transferred
 pub mod Served
-pub mod Done
 pub mod Runs
 pub mod BatchLaws
 pub mod Parts
 pub mod Worked
 pub mod WorkOf
-pub mod WorkDone
 pub mod Performed
 pub mod PartLaws
 pub mod UpgradeLaws

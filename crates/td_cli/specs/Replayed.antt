@@ -9,10 +9,12 @@ use Rattle.td_replay.specs.Numbers.{AreCounted, AreRising, IsFirstNot}
 use Rattle.td_replay.specs.Reading.{HasChanges, TellsJournal}
 use Rattle.td_replay.specs.Replays.{IsReplayOf}
 use Rattle.td_replay.specs.declared.replaying.ReplayRun.{ReplayRun}
-use Rattle.td_words.specs.declared.words.Records.{Records}
 use Rattle.td_cli.specs.AtDesk.{AtDesk}
 use Rattle.td_cli.specs.Exits.{of_file, of_journal, of_read_error}
+use Rattle.td_cli.specs.Journaled.{NamedDesk}
 use Rattle.td_cli.specs.Told.{IsResultTold, IsToldAlone}
+use Rattle.td_cli.specs.WorkOf.{part_replayed}
+use Rattle.td_cli.specs.Worked.{IfClean, Work}
 use Rattle.td_cli.specs.World.{OpensDeskFileAlone, Lent, World}
 use Rattle.td_cli.specs.declared.exits.Cause.{Cause}
 use Rattle.td_cli.specs.declared.exits.Cause.TheVariants.{Differs, ForeignRow}
@@ -39,27 +41,30 @@ module _ (lent : Lent) where
   IsReplayTold (Ok run) old new status = IsResultTold lent run.text.items run.stopped (option_map Differs run.differs) old new status
   IsReplayTold (Err why) old new status = IsToldAlone lent (Some (of_file why)) old new status
 
-  -- Rows were done again, each at its own moment, at a desk whose records stand there, in this country, and what became of them was
-  -- told; or there was no desk.
-  abbrev pub IsReplayAtDesk : List ℕ → Records → List Numbered → World lent → World lent → ℕ → Type 0
-  IsReplayAtDesk country records rows old new status =
+module _ (lent : Lent) (Says : Work → Type 0) where
+  -- Rows were done again, each at its own moment, at the office's desk whose records stand there, and what became of them was told; or there
+  -- was no desk.
+  abbrev pub IsReplayAtDesk : NamedDesk → List Numbered → World lent → World lent → ℕ → Type 0
+  IsReplayAtDesk desk rows old new status =
       (end : Result ReplayRun DeskFault)
-      × AtDesk lent.drive country records (λ D view opened left run. IsReplayOf view rows run opened left) (Unit {0}) old.file new.file end
-      × IsReplayTold end old new status
+      × AtDesk lent.drive desk.office.country desk.records
+      (λ D view opened left run. (done : IsReplayOf view rows run opened left) × IfClean Says view opened left (part_replayed view rows run opened left done))
+      (Unit {0}) old.file new.file end
+      × IsReplayTold lent end old new status
 
   -- What came of the bytes of a file. They aren't the rows of a journal: then nothing was printed, and the desk's file wasn't opened. Or
   -- they are these rows, which were done at the desk.
-  abbrev pub AreRowsReplayed : List ℕ → Records → List ℕ → Bool → World lent → World lent → ℕ → Type 0
-  AreRowsReplayed country records bytes part old new status =
+  abbrev pub AreRowsReplayed : NamedDesk → List ℕ → Bool → World lent → World lent → ℕ → Type 0
+  AreRowsReplayed desk bytes part old new status =
       OpensDeskFileAlone lent old new
       × (((cause : Cause) × IsUnreadFor part bytes cause × (new.file ≡ old.file) × IsToldAlone lent (Some cause) old new status)
-      ⊎ ((rows : List Numbered) × AreRowsOf part bytes rows × IsReplayAtDesk country records rows old new status))
+      ⊎ ((rows : List Numbered) × AreRowsOf part bytes rows × IsReplayAtDesk desk rows old new status))
 
   -- The journal in the file at this path was done again. It couldn't be read: then nothing was printed, and no other file was opened. Or
   -- these are its bytes, and this came of them, from the machine on as the reading left it.
-  abbrev pub IsJournalReplayed : List ℕ → Records → List ℕ → Bool → World lent → World lent → ℕ → Type 0
-  IsJournalReplayed country records csv part old new status =
+  abbrev pub IsJournalReplayed : NamedDesk → List ℕ → Bool → World lent → World lent → ℕ → Type 0
+  IsJournalReplayed desk csv part old new status =
       ((why : ReadError) × IsNotRead lent.machine.known csv old.machine new.machine why
       × (new.input ≡ old.input) × (new.file ≡ old.file) × (new.other ≡ old.other) × IsToldAlone lent (Some (of_read_error why)) old new status)
       ⊎ ((bytes : List ℕ) × (read : lent.Machine) × HasRead lent.machine.known csv old.machine bytes read
-      × AreRowsReplayed country records bytes part (record old { machine = read }) new status)
+      × AreRowsReplayed desk bytes part (record old { machine = read }) new status)

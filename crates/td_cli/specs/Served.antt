@@ -12,6 +12,8 @@ use Rattle.td_replay.specs.declared.following.FollowFault.{FollowFault}
 use Rattle.td_words.specs.declared.words.Listening.{Listening}
 use Rattle.td_cli.specs.Exits.{IsEnded, of_job, of_serving, of_standby, of_stream}
 use Rattle.td_cli.specs.Journaled.{NamedDesk, WithJournal}
+use Rattle.td_cli.specs.WorkOf.{part_piped, parts_after, parts_listened}
+use Rattle.td_cli.specs.Worked.{IfClean, Work}
 use Rattle.td_cli.specs.World.{IsIdle, Lent, World, job_at, known_job}
 
 module _ (lent : Lent) where
@@ -19,14 +21,22 @@ module _ (lent : Lent) where
   abbrev pub server_at : {D : Type 0} → D → World lent → ServerState D lent.Output lent.Machine
   server_at desk world = server_of desk world.output world.machine
 
+  -- connections were served after what was begun
+  abbrev pub ServesAfter : {D : Type 0} → NamedDesk → Listening → DeskView D → D → World lent
+      → JobState D lent.Input lent.Output lent.Machine → ServingEnd → Type 0
+  ServesAfter desk listening view left new begun end =
+      (new.input ≡ begun.input)
+      × ServesAs view lent.output lent.machine desk.office.at listening end (without_input begun) (server_at left new)
+
+module _ (lent : Lent) (Says : Work → Type 0) where
   -- What a job leaves that serves one stream at the office's desk whose records stand there, and which keeps this journal, if one is named.
   -- Where there was a desk, the stream was served.
-  abbrev pub DoesPipe : NamedDesk → World lent → World lent → (D : Type 0) → DeskView D → D → D → StreamEnd → Type 0
-  DoesPipe desk old new D view opened left end =
-      IsPipedAt view (known_job lent) desk.office.at (job_at lent opened old) (job_at lent left new) end
-
   abbrev pub PipesAs : NamedDesk → World lent → World lent → Result StreamEnd DeskFault → Type 0
-  PipesAs desk old new end = WithJournal lent desk (DoesPipe desk old new) (IsIdle lent old new) old new end
+  PipesAs desk old new end =
+      WithJournal lent desk
+      (λ D view opened left end. (piped : IsPipedAt view (known_job lent) desk.office.at (job_at lent opened old) (job_at lent left new) end)
+      × IfClean Says view opened left (part_piped view (known_job lent) desk.office.at (job_at lent opened old) (job_at lent left new) end piped))
+      (IsIdle lent old new) old new end
 
   -- a stream was served, and how it ended was told
   abbrev pub IsPipeDone : NamedDesk → World lent → World lent → ℕ → Type 0
@@ -36,29 +46,26 @@ module _ (lent : Lent) where
 
   -- What a serving leaves at the office's desk whose records stand there, and which keeps this journal, if one is named: the input isn't
   -- read, and where there was a desk, this is said of how the serving ended.
-  abbrev pub DoesServe : NamedDesk → Listening → World lent → World lent → (D : Type 0) → DeskView D → D → D → ServingEnd → Type 0
-  DoesServe desk listening old new D view opened left end =
-      (new.input ≡ old.input)
-      × ServesAs view lent.output lent.machine desk.office.at listening end (server_at opened old) (server_at left new)
-
   abbrev pub IsServing : NamedDesk → Listening → World lent → World lent → Result ServingEnd DeskFault → Type 0
-  IsServing desk listening old new end = WithJournal lent desk (DoesServe desk listening old new) (IsIdle lent old new) old new end
+  IsServing desk listening old new end =
+      WithJournal lent desk
+      (λ D view opened left end.
+      (new.input ≡ old.input)
+      × (served : ServesAs view lent.output lent.machine desk.office.at listening end (server_at lent opened old) (server_at lent left new))
+      × IfClean Says view opened left (parts_listened view (known_job lent) desk.office.at listening end (server_at lent opened old) (server_at lent left new) served))
+      (IsIdle lent old new) old new end
 
   -- What a standby desk leaves. Where there was a desk, it followed the journal that came by the input to its end, and then served, from
   -- where the rows had left it; or it didn't follow it to the end, and then nothing was printed or asked of the machine, so that no port
   -- was opened.
-  abbrev pub ServesAfter : {D : Type 0} → NamedDesk → Listening → DeskView D → D → World lent
-      → JobState D lent.Input lent.Output lent.Machine → ServingEnd → Type 0
-  ServesAfter desk listening view left new begun end =
-      (new.input ≡ begun.input)
-      × ServesAs view lent.output lent.machine desk.office.at listening end (without_input begun) (server_at left new)
-
-  abbrev pub DoesStandBy : NamedDesk → Listening → World lent → World lent → (D : Type 0) → DeskView D → D → D → Result ServingEnd FollowFault → Type 0
-  DoesStandBy desk listening old new D view opened left end =
-      DoesAfter view lent.input (job_at lent opened old) (job_at lent left new) (ServesAfter desk listening view left new) end
-
   abbrev pub StandsBy : NamedDesk → Listening → World lent → World lent → Result (Result ServingEnd FollowFault) DeskFault → Type 0
-  StandsBy desk listening old new end = WithJournal lent desk (DoesStandBy desk listening old new) (IsIdle lent old new) old new end
+  StandsBy desk listening old new end =
+      WithJournal lent desk
+      (λ D view opened left end.
+      (stood : DoesAfter view lent.input (job_at lent opened old) (job_at lent left new) (ServesAfter lent desk listening view left new) end)
+      × IfClean Says view opened left (parts_after view lent.input (job_at lent opened old) (job_at lent left new) (ServesAfter lent desk listening view left new)
+      (λ begun end served. parts_listened view (known_job lent) desk.office.at listening end (without_input begun) (server_at lent left new) served.1) end stood))
+      (IsIdle lent old new) old new end
 
   -- connections were served, once a journal was followed or at once, and how that ended was told
   abbrev pub IsServingDone : Bool → NamedDesk → Listening → World lent → World lent → ℕ → Type 0

@@ -1,49 +1,32 @@
--- The work that is in what a job did: what is said of it, wherever the desk's records stand.
+-- The parts of the work that a job did at a desk, by what is said of the job.
 use Rattle.std.proofs.Common.{inl, inr}
 use Rattle.std.specs.Prelude.{ℕ, ℤ, List, [], ◌∷◌, ◌++◌, map, Option, None, Some, Result, Ok, Err}
 use Rattle.std.specs.declared.io.Error.{Error}
 use Rattle.counted_io.specs.declared.counted.Counted.{Counted}
 use Rattle.http_wire.specs.declared.stream.StreamEnd.{StreamEnd}
-use Rattle.sqlite_disk.specs.declared.Disk.{Ghosts}
 use Rattle.td_desk.specs.View.{DeskView}
-use Rattle.td_desk.specs.declared.plain.PlainDesk.{PlainDesk}
 use Rattle.td_desk.specs.declared.running.Outcome.TheVariants as outcome
+use Rattle.td_batch.specs.Runs.{IsRunOf}
 use Rattle.td_batch.specs.declared.running.BatchRun.{BatchRun}
 use Rattle.td_commands.specs.declared.command.Command.{Command}
-use Rattle.td_files.specs.Found.{FileHeld, FileSeen, over_file}
-use Rattle.td_files.specs.declared.desks.DeskFault.{DeskFault}
-use Rattle.td_jobs.specs.Batched.{HasDoneRows}
-use Rattle.td_jobs.specs.Desks.{in_memory}
-use Rattle.td_jobs.specs.Jobs.{DeskAndMachine, JobState, KnownJob, state_of}
+use Rattle.td_commands.specs.declared.said.Said.{Said}
+use Rattle.td_jobs.specs.Jobs.{JobState, KnownJob, state_of}
 use Rattle.td_jobs.specs.Listening.{HasServedAt, PrintingState, ServerState, ServesAs, ServesThere, ServingState, listening_from}
 use Rattle.td_jobs.specs.Piped.{IsPipedAt}
 use Rattle.td_jobs.specs.declared.serving.ServingEnd.{ServingEnd}
 use Rattle.td_jobs.specs.declared.serving.ServingEnd.TheVariants.{Done, NoMemory, Socket, Write}
-use Rattle.td_journal.specs.Journaled.{journaled}
-use Rattle.td_journal.specs.declared.desk.JournaledDesk.{JournaledDesk}
 use Rattle.td_journal_jobs.specs.Following.{DoesAfter}
-use Rattle.td_journal_jobs.specs.Journaling.{DeskAndFile, HasJournaled, HasJournaledTo}
 use Rattle.td_journal_jobs.specs.Standby.{said_to}
 use Rattle.td_journal_lines.specs.Lines.{Numbered}
-use Rattle.td_journal_start.specs.declared.refused.StartFault.{StartFault}
-use Rattle.td_machine.specs.Drive.{KnownDrive}
 use Rattle.td_machine.specs.Machine.{Around}
 use Rattle.td_replay.specs.Following.{AreToldAgain, Follows, RowFails}
 use Rattle.td_replay.specs.Replays.{IsReplayOf, stamped_of, tried_rows}
 use Rattle.td_replay.specs.declared.following.FollowFault.{FollowFault}
 use Rattle.td_replay.specs.declared.following.FollowFault.TheVariants.{BadRow, Misplaced, Differs, Unread, Failed}
 use Rattle.td_replay.specs.declared.replaying.ReplayRun.{ReplayRun}
-use Rattle.td_words.specs.declared.words.BatchKind.{BatchKind}
 use Rattle.td_words.specs.declared.words.Listening.{Listening}
-use Rattle.td_words.specs.declared.words.Records.{Records}
-use Rattle.td_words.specs.declared.words.Records.TheVariants.{Memory, File, NewFile}
-use Rattle.td_cli.specs.AtDesk.{AtDesk}
 use Rattle.td_cli.specs.BatchLaws.{commands_tried, outcomes_tried}
-use Rattle.td_cli.specs.Journaled.{NamedDesk, WithJournalAt, WithJournal}
 use Rattle.td_cli.specs.Parts.{Part, rows, stream}
-use Rattle.td_cli.specs.World.{Lent, World}
-
--- ---- the parts of what was done at a desk
 
 -- the stream that was served
 abbrev pub part_piped : {D R W M L Reads Writes : Type 0} (view : DeskView D) (known : KnownJob R W M L Reads Writes) (at : Option ℤ)
@@ -59,25 +42,25 @@ parts_served view around (Some at) connections old new answer served =
 parts_served view around None connections old new answer served =
     map (λ es. stream es) (map (λ connection. connection.exchanges) served.served.all_served)
 
-module _ {D W M L Reads Writes : Type 0} (view : DeskView D) (contents : W → Option (List ℕ)) (around : Around M L Reads Writes)
-    (at : Option ℤ) (listening : Listening) where
-  abbrev pub parts_there : (end : ServingEnd) (old new : PrintingState L M D W) → ServesThere view contents around at listening end old new → List Part
-  parts_there Done old new serves = parts_served view around at listening.connections _ _ _ serves.1.1
+module _ {D R W M L Reads Writes : Type 0} (view : DeskView D) (known : KnownJob R W M L Reads Writes) (at : Option ℤ) (listening : Listening) where
+  abbrev pub parts_there : (end : ServingEnd) (old new : PrintingState L M D W)
+      → ServesThere view known.contents known.around at listening end old new → List Part
+  parts_there Done old new serves = parts_served view known.around at listening.connections _ _ _ serves.1.1
   parts_there NoMemory old new serves = []
-  parts_there Socket old new serves = parts_served view around at listening.connections _ _ _ serves.1.1
+  parts_there Socket old new serves = parts_served view known.around at listening.connections _ _ _ serves.1.1
   parts_there Write old new (inl cut) = []
-  parts_there Write old new (inr serves) = parts_served view around at listening.connections _ _ _ serves.1.1
+  parts_there Write old new (inr serves) = parts_served view known.around at listening.connections _ _ _ serves.1.1
 
-  abbrev pub parts_listened : (end : ServingEnd) (old new : ServerState D W M) → ServesAs view contents around at listening end old new → List Part
+  abbrev pub parts_listened : (end : ServingEnd) (old new : ServerState D W M)
+      → ServesAs view known.contents known.around at listening end old new → List Part
   parts_listened end old new (inl not) = []
   parts_listened end old new (inr listened) =
       parts_there end (listening_from listened.came listened.begun old) (listening_from listened.gone listened.ended new) listened.serves
 
 -- the rows of a batch that were tried
-abbrev pub part_batched : {D M : Type 0} (view : DeskView D) (ticks : M → ℤ → M → Type 0) (at : Option ℤ) (which : BatchKind) (commands : List Command)
-    (old new : DeskAndMachine D M) (r : BatchRun) → HasDoneRows view ticks at which commands old new r → List Part
-part_batched view ticks at which commands old new r done =
-    rows (commands_tried done.moment commands r done.ran) (outcomes_tried done.moment commands r done.ran) ∷ []
+abbrev pub part_batched : {D : Type 0} {view : DeskView D} {line : Command → Said → List ℕ} {header : List ℕ} {old new : D}
+    (at : ℤ) (commands : List Command) (r : BatchRun) → IsRunOf view line header at commands r old new → List Part
+part_batched at commands r ran = rows (commands_tried at commands r ran) (outcomes_tried at commands r ran) ∷ []
 
 -- the rows of a journal that were tried, done again
 abbrev pub part_replayed : {D : Type 0} (view : DeskView D) (numbered : List Numbered) (run : ReplayRun) (old new : D)
@@ -113,40 +96,3 @@ module _ {D : Type 0} (view : DeskView D) where
   parts_after remaining old new did parts (Ok end) is =
       parts_followed remaining old.desk is.0 old.input is.1 (Ok is.2) is.3 ++ parts (state_of is.0 is.1 old.output old.machine) end is.4
   parts_after remaining old new did parts (Err why) is = parts_followed remaining old.desk new.desk old.input new.input (Err why) is.2
-
--- ---- wherever the desk's records stand
-
-module _ {End : Type 0} (did : (D : Type 0) → DeskView D → D → D → End → Type 0)
-    (says : (D : Type 0) (view : DeskView D) (opened left : D) (end : End) → did D view opened left end → Type 0) where
-  -- this is said of what was done at a desk; where there was none, nothing is said
-  abbrev pub AtDeskSays : {V S : Type 0} {disk : Ghosts S} (drive : KnownDrive V S) (country : List ℕ) (untouched : Type 0)
-      (before file : FileHeld V disk) (records : Records) (end : Result End DeskFault)
-      → AtDesk drive country records did untouched before file end → Type 0
-  AtDeskSays drive country untouched before file Memory (Ok end) at = says PlainDesk in_memory at.0.0 at.0.1 end at.0.3
-  AtDeskSays {S = S} {disk = disk} drive country untouched before file (File path) (Ok end) at = says (FileSeen disk) over_file at.0 at.1 end at.5
-  AtDeskSays {S = S} {disk = disk} drive country untouched before file (NewFile path) (Ok end) at = says (FileSeen disk) over_file at.0 at.1 end at.5
-  AtDeskSays drive country untouched before file Memory (Err why) at = Unit {0}
-  AtDeskSays drive country untouched before file (File path) (Err why) at = Unit {0}
-  AtDeskSays drive country untouched before file (NewFile path) (Err why) at = Unit {0}
-
-  -- the same of a desk that keeps a journal
-  abbrev pub JournaledSays : {D F : Type 0} (g : Ghosts F) (view : DeskView D) (untouched : Type 0) (old new : DeskAndFile D F)
-      (end : Result End StartFault) → HasJournaledTo g view did untouched old new end → Type 0
-  JournaledSays {D} {F} g view untouched old new (Ok end) is = says (JournaledDesk D F g) (journaled view) is.0 is.1 end is.3
-  JournaledSays g view untouched old new (Err why) is = Unit {0}
-
-module _ {End : Type 0} (lent : Lent) (desk : NamedDesk) (did : (D : Type 0) → DeskView D → D → D → End → Type 0)
-    (says : (D : Type 0) (view : DeskView D) (opened left : D) (end : End) → did D view opened left end → Type 0) (untouched : Type 0)
-    (old new : World lent) where
-  abbrev pub WithJournalAtSays : (journal : Option (List ℕ)) (end : Result End DeskFault)
-      → WithJournalAt lent desk journal did untouched old new end → Type 0
-  WithJournalAtSays None end is = AtDeskSays did says lent.drive desk.office.country untouched old.file new.file desk.records end is.1
-  WithJournalAtSays (Some path) end (inl none) = Unit {0}
-  WithJournalAtSays (Some path) end (inr at) =
-      AtDeskSays (λ D view begun left ended. HasJournaled lent.other_disk view begun left at.journal did untouched ended)
-      (λ D view begun left ended is. JournaledSays did says lent.other_disk view untouched
-      (record { desk = begun; file = at.journal }) (record { desk = left; file = ended.file }) ended.end is)
-      lent.drive desk.office.country untouched old.file new.file desk.records at.ended at.done
-
-  abbrev pub WithJournalSays : (end : Result End DeskFault) → WithJournal lent desk did untouched old new end → Type 0
-  WithJournalSays = WithJournalAtSays desk.journal

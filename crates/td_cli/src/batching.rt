@@ -4,6 +4,7 @@ ghost use Rattle.td_batch.specs.Runs.{has_refusal};
 ghost use Rattle.td_jobs.specs.Batched.{commands_of, kind_of};
 ghost use Rattle.td_cli.specs.Batched.{IsBatchAtDesk, IsBatchTold, IsBatched};
 ghost use Rattle.td_cli.specs.Journaled.{named_desk};
+ghost use Rattle.td_cli.specs.Worked.{AnyWork};
 ghost use Rattle.td_cli.specs.World.{IsLentStill, OpensNoFile, lent_by, world_of};
 ghost use Rattle.td_cli.specs.declared.exits.Cause.TheVariants.{RowsRefused};
 
@@ -40,7 +41,7 @@ where
     ) -> u8
         ensures lent { IsLentStill self.old self.new }
         ensures done { IsBatched (lent_by ⟦<M as Surroundings>⟧.around R.remaining W.contents E.contents V.known V.Disk.Disk O.known O.Disk.Disk)
-            (named_desk office records.now (option_map string_bytes journal.now)) kind csv.now
+            AnyWork (named_desk office records.now (option_map string_bytes journal.now)) kind csv.now
             (world_of _ self.old) (world_of _ self.new) result }
     {
         let bytes = match self.machine.read_file(alloc, csv) {
@@ -65,7 +66,7 @@ where
         ensures lent { IsLentStill self.old self.new }
         ensures unread { self.new.input.now ≡ self.old.input.now }
         ensures done { IsBatchAtDesk (lent_by ⟦<M as Surroundings>⟧.around R.remaining W.contents E.contents V.known V.Disk.Disk O.known O.Disk.Disk)
-            (named_desk office records.now (option_map string_bytes journal.now))
+            AnyWork (named_desk office records.now (option_map string_bytes journal.now))
             (kind_of rows) (commands_of rows) (world_of _ self.old) (world_of _ self.new) result }
     {
         let end = self.with_journal(alloc, office, records, journal, rows);

@@ -1,7 +1,7 @@
 //! The jobs of the program.
 ghost use Rattle.std.specs.Prelude.{map, string_bytes};
-ghost use Rattle.td_cli.specs.Done.{IsJobDone, IsTaskDone};
-ghost use Rattle.td_cli.specs.Performed.{IsPerformed};
+ghost use Rattle.td_cli.specs.Performed.{IsJobDone, IsPerformed, IsTaskDone};
+ghost use Rattle.td_cli.specs.Worked.{AnyWork};
 ghost use Rattle.td_cli.specs.World.{IsLentStill, lent_by, world_of};
 
 use crate::context::{Context, JobContext};
@@ -100,7 +100,7 @@ where
     fn do_job(&mut self, alloc: Global, job: Job) -> u8
         ensures lent { IsLentStill self.old self.new }
         ensures done { IsJobDone (lent_by ⟦<M as Surroundings>⟧.around R.remaining W.contents E.contents V.known V.Disk.Disk O.known O.Disk.Disk)
-            job (world_of _ self.old) (world_of _ self.new) result }
+            AnyWork job (world_of _ self.old) (world_of _ self.new) result }
     {
         match job {
             Job::AtDesk(office, task) => self.do_task(alloc, office, task),
@@ -113,7 +113,7 @@ where
     fn do_task(&mut self, alloc: Global, office: Office, task: Task) -> u8
         ensures lent { IsLentStill self.old self.new }
         ensures done { IsTaskDone (lent_by ⟦<M as Surroundings>⟧.around R.remaining W.contents E.contents V.known V.Disk.Disk O.known O.Disk.Disk)
-            office task (world_of _ self.old) (world_of _ self.new) result }
+            AnyWork office task (world_of _ self.old) (world_of _ self.new) result }
     {
         match task {
             Task::Serve {

@@ -1,11 +1,13 @@
 //! The headline over two runs of the program, as contracts of functions that do nothing.
-ghost use Rattle.std.specs.Prelude.{ℕ, Bool, List, map, Result};
+ghost use Rattle.std.specs.Prelude.{◌≡◌, ℕ, Bool, List, map, Result};
 ghost use Rattle.std.specs.declared.io.Error.{Error};
 ghost use Rattle.sqlite_wal.specs.Recovery.{Image};
 ghost use Rattle.td_files.specs.Found.{FileSeen, IsClean, over_file};
 ghost use Rattle.td_desk.specs.declared.plain.PlainDesk.{PlainDesk};
 ghost use Rattle.td_jobs.specs.Desks.{BeginAlike, BeginsEmpty, in_memory};
 ghost use Rattle.td_cli.specs.Desks.{BeginsIn};
+ghost use Rattle.td_cli.specs.Parts.{heard_of, told_of};
+ghost use Rattle.td_cli.specs.Worked.{KeepsHeadline, Work};
 ghost use Rattle.td_jobs.specs.Jobs.{JobState};
 ghost use Rattle.td_jobs.specs.Listening.{HasServed, ServingState};
 ghost use Rattle.td_jobs.specs.Piped.{IsPiped};
@@ -97,4 +99,15 @@ pub fn agreeing_servings_over_files_tell_the_same<
         → BeginAlike country H (over_file.content old.desk) (over_file.content other_old.desk)
         → TellAlikeOver country H (map (λ connection. connection.exchanges) one.served.all_served)
         (map (λ connection. connection.exchanges) other.served.all_served) }
+{}
+
+/// The headline over any two calls of `perform_on`, by what `IsPerformed` says of the work of each: wherever their desks'
+/// records stand, and whether requests came over a stream, over connections or as rows, a holder of whom the two desks had the same at
+/// first is told the same by both, where the holder's requests, acts and rows that did not fail are equal in the two, with their
+/// moments and how they came.
+pub fn agreeing_work_tells_the_same()
+    ensures { (H : ℕ) (one other : Work) → KeepsHeadline one → KeepsHeadline other
+        → BeginAlike one.begun.country H one.begun other.begun
+        → heard_of one.begun.country H one.parts ≡ heard_of one.begun.country H other.parts
+        → told_of one.begun.country H one.parts ≡ told_of one.begun.country H other.parts }
 {}

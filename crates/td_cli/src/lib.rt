@@ -31,6 +31,7 @@ pub use jobs::{perform, perform_on};
 pub use laws::{
     agreeing_jobs_over_files_tell_the_same, agreeing_jobs_tell_the_same,
     agreeing_servings_over_files_tell_the_same, agreeing_servings_tell_the_same,
+    agreeing_work_tells_the_same,
 };
 pub use part_laws::holders_go_on_where_their_rows_go;
 pub use program::{run_program, words_of};

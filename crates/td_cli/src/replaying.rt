@@ -1,7 +1,9 @@
 //! A journal, done again at a desk.
-ghost use Rattle.std.specs.Prelude.{◌≡◌, IfErr, IfOk, map, option_map};
+ghost use Rattle.std.specs.Prelude.{◌≡◌, IfErr, IfOk, None, map, option_map};
 ghost use Rattle.td_journal_lines.specs.Rows.{numbered};
+ghost use Rattle.td_cli.specs.Journaled.{named_desk};
 ghost use Rattle.td_cli.specs.Replayed.{AreRowsOf, IsJournalReplayed, IsReplayAtDesk, IsUnreadFor};
+ghost use Rattle.td_cli.specs.Worked.{AnyWork};
 ghost use Rattle.td_cli.specs.World.{IsLentStill, OpensDeskFileAlone, lent_by, world_of};
 ghost use Rattle.td_cli.specs.declared.exits.Cause.TheVariants.{Differs};
 
@@ -37,7 +39,7 @@ where
     ) -> u8
         ensures lent { IsLentStill self.old self.new }
         ensures done { IsJournalReplayed (lent_by ⟦<M as Surroundings>⟧.around R.remaining W.contents E.contents V.known V.Disk.Disk O.known O.Disk.Disk)
-            office.country records.now csv.now part (world_of _ self.old) (world_of _ self.new) result }
+            AnyWork (named_desk office records.now None) csv.now part (world_of _ self.old) (world_of _ self.new) result }
     {
         let bytes = match self.machine.read_file(alloc, csv) {
             Ok(bytes) => bytes,
@@ -62,7 +64,7 @@ where
         ensures kept { OpensDeskFileAlone (lent_by ⟦<M as Surroundings>⟧.around R.remaining W.contents E.contents V.known V.Disk.Disk O.known O.Disk.Disk)
             (world_of _ self.old) (world_of _ self.new) }
         ensures done { IsReplayAtDesk (lent_by ⟦<M as Surroundings>⟧.around R.remaining W.contents E.contents V.known V.Disk.Disk O.known O.Disk.Disk)
-            office.country records.now (map numbered rows.items) (world_of _ self.old) (world_of _ self.new) result }
+            AnyWork (named_desk office records.now None) (map numbered rows.items) (world_of _ self.old) (world_of _ self.new) result }
     {
         let job = Replaying { rows };
         match self.at_desk(alloc, office, records, job) {

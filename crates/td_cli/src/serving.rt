@@ -3,6 +3,7 @@ ghost use Rattle.std.specs.Prelude.{◌≡◌, option_map, string_bytes};
 ghost use Rattle.td_cli.specs.Exits.{of_job, of_serving, of_standby, of_stream};
 ghost use Rattle.td_cli.specs.Journaled.{named_desk};
 ghost use Rattle.td_cli.specs.Served.{IsPipeDone, IsServingDone};
+ghost use Rattle.td_cli.specs.Worked.{AnyWork};
 ghost use Rattle.td_cli.specs.World.{IsLentStill, lent_by, world_of};
 
 use crate::context::JobContext;
@@ -36,7 +37,7 @@ where
     ) -> u8
         ensures lent { IsLentStill self.old self.new }
         ensures done { IsPipeDone (lent_by ⟦<M as Surroundings>⟧.around R.remaining W.contents E.contents V.known V.Disk.Disk O.known O.Disk.Disk)
-            (named_desk office records.now (option_map string_bytes journal.now))
+            AnyWork (named_desk office records.now (option_map string_bytes journal.now))
             (world_of _ self.old) (world_of _ self.new) result }
     {
         let end = self.with_journal(alloc, office, records, journal, Piping);
@@ -57,7 +58,7 @@ where
     ) -> u8
         ensures lent { IsLentStill self.old self.new }
         ensures done { IsServingDone (lent_by ⟦<M as Surroundings>⟧.around R.remaining W.contents E.contents V.known V.Disk.Disk O.known O.Disk.Disk)
-            first (named_desk office records.now (option_map string_bytes journal.now)) listening
+            AnyWork first (named_desk office records.now (option_map string_bytes journal.now)) listening
             (world_of _ self.old) (world_of _ self.new) result }
     {
         if first {

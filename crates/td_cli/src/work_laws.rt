@@ -15,7 +15,6 @@ ghost use Rattle.td_cli.specs.BatchLaws.{commands_tried, outcomes_tried};
 ghost use Rattle.td_cli.specs.Desks.{BeginsKept};
 ghost use Rattle.td_cli.specs.Parts.{IsWork, Part, heard_of, rows, stream, told_of};
 ghost use Rattle.td_cli.specs.Runs.{GoesOnFrom, IsRun};
-ghost use Rattle.td_cli.specs.Worked.{IsPrivateWork, Work};
 
 use sqlite_disk::Disk;
 
@@ -45,15 +44,4 @@ pub fn work_over_one_file_is_one_machines<F: Disk, OtherF: Disk>()
         → IsWork country opened parts left → IsWork country other others other_left
         → BeginAlike country H (over_file.content opened) (over_file.content other)
         → heard_of country H parts ≡ heard_of country H others → told_of country H parts ≡ told_of country H others }
-{}
-
-/// The headline over any two calls of `perform_on`, by what `IsPerformed` says of the work of each (`private`): wherever their desks'
-/// records stand, and whether requests came over a stream, over connections or as rows, a holder of whom the two desks had the same at
-/// first is told the same by both, where the holder's requests, acts and rows that did not fail are equal in the two, with their
-/// moments and how they came.
-pub fn agreeing_work_tells_the_same()
-    ensures { (H : ℕ) (one other : Work) → IsPrivateWork one → IsPrivateWork other
-        → BeginAlike one.begun.country H one.begun other.begun
-        → heard_of one.begun.country H one.parts ≡ heard_of one.begun.country H other.parts
-        → told_of one.begun.country H one.parts ≡ told_of one.begun.country H other.parts }
 {}

@@ -6,9 +6,9 @@ use td_cli::{
     acknowledged_replies_are_kept_in_the_file, acknowledged_rows_are_kept_in_the_file,
     agreeing_batches_over_files_tell_the_same, agreeing_jobs_over_files_tell_the_same,
     agreeing_jobs_tell_the_same, agreeing_servings_over_files_tell_the_same,
-    agreeing_servings_tell_the_same, an_upgraded_file_goes_on_with_its_content,
-    holders_go_on_where_their_rows_go, runs_over_one_file_are_one_run, runs_over_one_file_lead_on,
-    work_over_one_file_is_one_machines,
+    agreeing_servings_tell_the_same, agreeing_work_tells_the_same,
+    an_upgraded_file_goes_on_with_its_content, holders_go_on_where_their_rows_go,
+    runs_over_one_file_are_one_run, runs_over_one_file_lead_on, work_over_one_file_is_one_machines,
 };
 use td_desk::PlainDesk;
 use td_http::{
@@ -78,6 +78,7 @@ fn laws_of_batches_hold_at_concrete_types() {
     a_batch_cut_short_is_sent_again::<FileFrom<Unknown>, FileFrom<Unknown>>();
     runs_over_one_file_lead_on::<FileFrom<Unknown>>();
     work_over_one_file_is_one_machines::<FileFrom<Unknown>, FileFrom<Unknown>>();
+    agreeing_work_tells_the_same();
     holders_go_on_where_their_rows_go::<FileFrom<Unknown>>();
     an_upgraded_file_goes_on_with_its_content::<FileFrom<Unknown>>();
 }

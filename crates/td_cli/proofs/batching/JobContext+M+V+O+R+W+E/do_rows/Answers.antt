@@ -34,10 +34,11 @@ returns-clause-done g c =
     let at = with_parted
     (λ D view opened left r. (begun.input.now ≡ old.input.now) × (begun.out.now ≡ old.out.now)
     × HasDoneRows view g.M.Clock.ticks c.args.office.at (kind_of rows) (commands_of rows) (with_machine opened old.machine.now) (with_machine left begun.machine.now) r)
-    (λ D view opened left r. HasDoneRows view g.M.Clock.ticks c.args.office.at (kind_of rows) (commands_of rows) (with_machine opened old.machine.now) (with_machine left begun.machine.now) r)
+    (λ D view opened left r. HasDoneRows view g.M.Clock.ticks c.args.office.at (kind_of rows) (commands_of rows) (with_machine opened old.machine.now) (with_machine left begun.machine.now) r
+    × (view.is_clean left → Unit {0}))
     ((begun.input.now ≡ old.input.now) × (begun.out.now ≡ old.out.now))
     (IsUntouched old.input.now begun.input.now old.out.now begun.out.now old.machine.now begun.machine.now) (begun.machine.now ≡ old.machine.now)
-    (λ D view opened left r is. ((is.0, is.1), is.2)) (λ is. ((is.0, is.1), is.2))
+    (λ D view opened left r is. ((is.0, is.1), (is.2, λ clean. tt))) (λ is. ((is.0, is.1), is.2))
     _ (record { office = c.args.office; records = c.args.records.now; journal = option_map string_bytes c.args.journal.now })
     (world_of _ old) (world_of _ begun) end.result end.ensures.done in
     let kept = c.tell_batch.ensures.kept in

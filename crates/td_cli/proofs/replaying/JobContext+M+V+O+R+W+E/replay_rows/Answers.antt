@@ -30,8 +30,8 @@ returns-in-Ok-clause-done g c =
     let rows = map numbered c.args.rows.items in
     let end : Result ReplayRun DeskFault = Ok c.in-Ok.run' in
     let at = left_parted g.V.Drive.known c.args.office.country old.file.now begun.file.now
-    (λ D view opened left run. untouched × IsReplayOf view rows run opened left) (λ D view opened left run. IsReplayOf view rows run opened left)
-    untouched untouched (Unit {0}) c.args.records.now end (λ D view opened left run is. is) (λ is. (is, tt)) c.in-Ok.ensures.done in
+    (λ D view opened left run. untouched × IsReplayOf view rows run opened left) (λ D view opened left run. IsReplayOf view rows run opened left × (view.is_clean left → Unit {0}))
+    untouched untouched (Unit {0}) c.args.records.now end (λ D view opened left run is. (is.0, (is.1, λ clean. tt))) (λ is. (is, tt)) c.in-Ok.ensures.done in
     let kept = c.tell_result.ensures.kept in (
       end,
       rw kept.1 at.1,
@@ -59,6 +59,6 @@ returns-in-Err-clause-done g c =
     let rows = map numbered c.args.rows.items in
     let end : Result ReplayRun DeskFault = Err c.in-Err.undone.why in
     let at = left_parted g.V.Drive.known c.args.office.country old.file.now begun.file.now
-    (λ D view opened left run. untouched × IsReplayOf view rows run opened left) (λ D view opened left run. IsReplayOf view rows run opened left)
-    untouched untouched (Unit {0}) c.args.records.now end (λ D view opened left run is. is) (λ is. (is, tt)) c.in-Err.ensures.done in
+    (λ D view opened left run. untouched × IsReplayOf view rows run opened left) (λ D view opened left run. IsReplayOf view rows run opened left × (view.is_clean left → Unit {0}))
+    untouched untouched (Unit {0}) c.args.records.now end (λ D view opened left run is. (is.0, (is.1, λ clean. tt))) (λ is. (is, tt)) c.in-Err.ensures.done in
     (end, at.1, (at.0.1, rw (c.at_desk.ensures.untold, c.of_file.ensures) at c.fault.ensures))

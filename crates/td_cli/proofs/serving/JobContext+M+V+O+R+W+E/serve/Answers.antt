@@ -1,27 +1,27 @@
 use Rattle.std.proofs.Common.{refl}
 use Rattle.std.specs.Prelude.{option_map, string_bytes}
 use Rattle.td_cli.specs.World.{world_of}
-use Rattle.td_cli.proofs.LeftWithJournal.{left_later}
+use Rattle.td_cli.proofs.LeftWithJournal.{left_later, with_more}
 use Rattle.td_cli.proofs.serving.JobContext+M+V+O+R+W+E.serve.Goals as goal
 
 pub returns-then-first-clause-done : goal.returns-then-first-clause-done
 returns-then-first-clause-done g c =
     let end = c.with_journal-end in
+    let desk = record { office = c.args.office; records = c.args.records.now; journal = option_map string_bytes c.args.journal.now } in
     rw c.if-first.true (
       end.result,
-      left_later _ (record { office = c.args.office; records = c.args.records.now; journal = option_map string_bytes c.args.journal.now })
-          (world_of _ c.args.self.now) (world_of _ end.new.self) _ refl refl
-          _ _ end.result end.ensures.done,
+      with_more _ desk (world_of _ c.args.self.now) _ _ _ _ (λ D view opened left end stood. (stood, λ clean. tt)) end.result
+          (left_later _ desk (world_of _ c.args.self.now) (world_of _ end.new.self) _ refl refl _ _ end.result end.ensures.done),
       rw (end.ensures.untold, c.standby_cause.ensures) at c.exit.ensures,
     )
 
 pub returns-else-first-clause-done : goal.returns-else-first-clause-done
 returns-else-first-clause-done g c =
     let end = c.with_journal-end-else-first in
+    let desk = record { office = c.args.office; records = c.args.records.now; journal = option_map string_bytes c.args.journal.now } in
     rw c.if-first.false (
       end.result,
-      left_later _ (record { office = c.args.office; records = c.args.records.now; journal = option_map string_bytes c.args.journal.now })
-          (world_of _ c.args.self.now) (world_of _ end.new.self) _ refl refl
-          _ _ end.result end.ensures.done,
+      with_more _ desk (world_of _ c.args.self.now) _ _ _ _ (λ D view opened left end served. (served.0, served.1, λ clean. tt)) end.result
+          (left_later _ desk (world_of _ c.args.self.now) (world_of _ end.new.self) _ refl refl _ _ end.result end.ensures.done),
       rw (end.ensures.untold, c.serving_cause.ensures) at c.exit-else-first.ensures,
     )
