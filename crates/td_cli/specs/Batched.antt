@@ -27,7 +27,8 @@ module _ (lent : Lent) where
 
 module _ (lent : Lent) (Says : Work → Type 0) where
   -- Rows were done at the office's desk whose records stand there, and which keeps this journal, if one is named; at the office's moment or
-  -- at one of the machine's clock. What became of them was told; or there was no desk, and the clock wasn't asked.
+  -- at one of the machine's clock. `Says` is said of that work, and what became of the rows was told. Or there was no desk, and the clock
+  -- wasn't asked.
   abbrev pub IsBatchAtDesk : NamedDesk → BatchKind → List Command → World lent → World lent → ℕ → Type 0
   IsBatchAtDesk desk which commands old new status =
       (end : Result BatchRun DeskFault)

@@ -30,7 +30,7 @@ use Rattle.td_cli.specs.declared.exits.Word.TheVariants.{NoMemory}
 module _ (lent : Lent) (Says : Work → Type 0) where
   -- A task was done at a desk of the office, and how it ended was told, with that status: one stream from the input to the output;
   -- connections; a file of rows; a journal again; a report; or a file was tested. The file is the one at the path that the task names, and
-  -- the other that of a journal.
+  -- the other that of a journal. `Says` is said of the work that was done at a desk; a report and a check ask nothing of one.
   abbrev pub IsTaskDone : Office → Task → World lent → World lent → ℕ → Type 0
   IsTaskDone office (Pipe records journal) old new status = IsPipeDone lent Says (named_desk office records (option_map string_bytes journal)) old new status
   IsTaskDone office (Serve listening records journal first) old new status =

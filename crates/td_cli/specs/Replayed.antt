@@ -42,8 +42,8 @@ module _ (lent : Lent) where
   IsReplayTold (Err why) old new status = IsToldAlone lent (Some (of_file why)) old new status
 
 module _ (lent : Lent) (Says : Work → Type 0) where
-  -- Rows were done again, each at its own moment, at the office's desk whose records stand there, and what became of them was told; or there
-  -- was no desk.
+  -- Rows were done again, each at its own moment, at the office's desk whose records stand there. `Says` is said of that work, and what became
+  -- of the rows was told. Or there was no desk.
   abbrev pub IsReplayAtDesk : NamedDesk → List Numbered → World lent → World lent → ℕ → Type 0
   IsReplayAtDesk desk rows old new status =
       (end : Result ReplayRun DeskFault)

@@ -30,7 +30,7 @@ module _ (lent : Lent) where
 
 module _ (lent : Lent) (Says : Work → Type 0) where
   -- What a job leaves that serves one stream at the office's desk whose records stand there, and which keeps this journal, if one is named.
-  -- Where there was a desk, the stream was served.
+  -- Where there was a desk, the stream was served, and `Says` is said of that work.
   abbrev pub PipesAs : NamedDesk → World lent → World lent → Result StreamEnd DeskFault → Type 0
   PipesAs desk old new end =
       WithJournal lent desk
@@ -45,7 +45,7 @@ module _ (lent : Lent) (Says : Work → Type 0) where
       × IsEnded lent.errors (of_job of_stream end) old.errors new.errors status
 
   -- What a serving leaves at the office's desk whose records stand there, and which keeps this journal, if one is named: the input isn't
-  -- read, and where there was a desk, this is said of how the serving ended.
+  -- read, and where there was a desk, this is said of how the serving ended, and `Says` of its work.
   abbrev pub IsServing : NamedDesk → Listening → World lent → World lent → Result ServingEnd DeskFault → Type 0
   IsServing desk listening old new end =
       WithJournal lent desk
@@ -57,7 +57,7 @@ module _ (lent : Lent) (Says : Work → Type 0) where
 
   -- What a standby desk leaves. Where there was a desk, it followed the journal that came by the input to its end, and then served, from
   -- where the rows had left it; or it didn't follow it to the end, and then nothing was printed or asked of the machine, so that no port
-  -- was opened.
+  -- was opened. `Says` is said of the rows and of what was served.
   abbrev pub StandsBy : NamedDesk → Listening → World lent → World lent → Result (Result ServingEnd FollowFault) DeskFault → Type 0
   StandsBy desk listening old new end =
       WithJournal lent desk
