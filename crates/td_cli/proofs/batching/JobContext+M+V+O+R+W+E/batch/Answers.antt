@@ -1,6 +1,8 @@
 use Rattle.std.proofs.Common.{inl, inr, refl}
-use Rattle.td_jobs.specs.Batched.{commands_of}
-use Rattle.td_cli.proofs.Batches.{not_read}
+use Rattle.std.specs.Prelude.{option_map, string_bytes}
+use Rattle.td_jobs.specs.Batched.{commands_of, kind_of}
+use Rattle.td_cli.specs.Journaled.{named_desk}
+use Rattle.td_cli.proofs.Batches.{not_read, same_kind}
 use Rattle.td_cli.proofs.batching.JobContext+M+V+O+R+W+E.batch.Goals as goal
 
 pub returns-in-Err-clause-done : goal.returns-in-Err-clause-done
@@ -26,7 +28,8 @@ returns-in-Ok-read-clause-done g c = (
     inr (
       commands_of c.in-Ok-read.rows,
       rw c.deref.ensures.value at c.in-Ok-read.ensures.rows.1,
-      rw c.in-Ok-read.ensures.rows.0 at c.do_rows.ensures.done,
+      same_kind _ (named_desk c.args.office c.args.records.now (option_map string_bytes c.args.journal.now)) (kind_of c.in-Ok-read.rows) c.args.kind
+          (commands_of c.in-Ok-read.rows) _ _ _ c.in-Ok-read.ensures.rows.0 c.do_rows.ensures.done,
     ),
   ),
 )

@@ -1,5 +1,6 @@
 use Rattle.std.proofs.Common.{refl}
 use Rattle.std.specs.Prelude.{option_map, string_bytes}
+use Rattle.td_cli.specs.Journaled.{NamedDesk}
 use Rattle.td_cli.specs.World.{world_of}
 use Rattle.td_cli.proofs.LeftWithJournal.{left_later, with_more}
 use Rattle.td_cli.proofs.serving.JobContext+M+V+O+R+W+E.serve.Goals as goal
@@ -7,7 +8,7 @@ use Rattle.td_cli.proofs.serving.JobContext+M+V+O+R+W+E.serve.Goals as goal
 pub returns-then-first-clause-done : goal.returns-then-first-clause-done
 returns-then-first-clause-done g c =
     let end = c.with_journal-end in
-    let desk = record { office = c.args.office; records = c.args.records.now; journal = option_map string_bytes c.args.journal.now } in
+    let desk : NamedDesk = record { office = c.args.office; records = c.args.records.now; journal = option_map string_bytes c.args.journal.now } in
     rw c.if-first.true (
       end.result,
       with_more _ desk (world_of _ c.args.self.now) _ _ _ _ (λ D view opened left end stood. (stood, λ clean. tt)) end.result
@@ -18,7 +19,7 @@ returns-then-first-clause-done g c =
 pub returns-else-first-clause-done : goal.returns-else-first-clause-done
 returns-else-first-clause-done g c =
     let end = c.with_journal-end-else-first in
-    let desk = record { office = c.args.office; records = c.args.records.now; journal = option_map string_bytes c.args.journal.now } in
+    let desk : NamedDesk = record { office = c.args.office; records = c.args.records.now; journal = option_map string_bytes c.args.journal.now } in
     rw c.if-first.false (
       end.result,
       with_more _ desk (world_of _ c.args.self.now) _ _ _ _ (λ D view opened left end served. (served.0, served.1, λ clean. tt)) end.result
