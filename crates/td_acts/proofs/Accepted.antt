@@ -12,8 +12,8 @@ use Rattle.td_movement.specs.declared.state.State.TheVariants.{Accepted}
 use Rattle.td_model.specs.declared.holder_row.HolderRow.{HolderRow}
 use Rattle.td_guarantee.specs.declared.guarantee.Guarantee.{Guarantee}
 use Rattle.td_movement.specs.declared.movement.Movement.{Movement}
-use Rattle.td_acts.specs.declared.rows.Change.{Change}
-use Rattle.td_acts.specs.declared.rows.Change.TheVariants as change
+use Rattle.td_model.specs.declared.change.Change.{Change}
+use Rattle.td_model.specs.declared.change.Change.TheVariants as change
 use Rattle.td_commands.specs.declared.said.Answer.{Answer}
 use Rattle.td_commands.specs.declared.said.Refusal.{Refusal}
 use Rattle.td_commands.specs.declared.said.Refusal.TheVariants.{ClockBack, SerialsSpent, NoMovement, NoGuarantee, WrongState}
@@ -21,11 +21,11 @@ use Rattle.td_commands.specs.declared.said.Said.{Said}
 use Rattle.td_commands.specs.declared.said.Said.TheVariants.{Answered, Refused}
 use Rattle.td_movement.specs.declared.moves.Move.{Move}
 use Rattle.td_movement.specs.States.{state_after}
-use Rattle.td_acts.specs.declared.rows.NewStatus.{NewStatus}
+use Rattle.td_model.specs.declared.change.NewStatus.{NewStatus}
 use Rattle.td_movement.specs.declared.state.State.{State}
 use Rattle.td_movement.specs.Status.{IsStatus}
 use Rattle.td_model.specs.Account.{Account, ReferencesDiffer, coded, uncoded, guarantee_by_grn, movement_by_lrn, movement_by_mrn}
-use Rattle.td_acts.specs.Changes.{with_status, with_terms, moved}
+use Rattle.td_model.specs.Changes.{with_status, with_terms, moved}
 use Rattle.td_model.specs.Machine.{is_answer}
 use Rattle.td_model.specs.Declaring.{first_refusal, line_refusal, guarantee_refusal, refusal_or}
 use Rattle.td_commands.specs.Lines.{line_of, IsLines, IsLineAmount}
@@ -35,7 +35,7 @@ use Rattle.td_guarantee.proofs.Ascending.{one_ascends}
 use Rattle.td_guarantee.proofs.Coded.{all_with, all_without, ascending_with, ascending_without, length_with, length_without}
 use Rattle.td_model.specs.Effects.{end_after, greatest_grn_given, greatest_mrn_given}
 use Rattle.td_model.specs.Sound.{IsHolderRow, AreCodes, IsGuaranteeRow, AreMovementLines, IsMovementRow, IsCovered}
-use Rattle.td_acts.proofs.Joined.{All-map, AllPairs-map, AllByRecursion-map}
+use Rattle.td_model.proofs.Joined.{All-map, AllPairs-map, AllByRecursion-map}
 
 -- a new holder's row, where there was none
 pub record IsRegistered (H : ℕ) (before : Option HolderRow) (row : HolderRow) : Type 0 where

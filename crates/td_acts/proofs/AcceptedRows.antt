@@ -6,13 +6,12 @@ use Rattle.td_base.specs.Days.{IsMoment, moment_of}
 use Rattle.td_guarantee.specs.declared.guarantee.Guarantee.{Guarantee}
 use Rattle.td_movement.specs.declared.movement.Movement.{Movement}
 use Rattle.td_model.specs.declared.holder_row.HolderRow.{HolderRow}
-use Rattle.td_acts.specs.declared.rows.Change.TheVariants as change
+use Rattle.td_model.specs.declared.change.Change.TheVariants as change
 use Rattle.td_commands.specs.declared.command.Command.{Command}
 use Rattle.td_model.specs.Account.{Account, empty_account}
 use Rattle.td_model.specs.Machine.{is_accepted_at}
 use Rattle.td_commands.specs.Commands.{owner_of, IsProper}
-use Rattle.td_acts.specs.Deciding.{change_at, change_in}
-use Rattle.td_acts.specs.Deciding.{change_of}
+use Rattle.td_acts.specs.Deciding.{change_at, change_in, change_of}
 use Rattle.td_acts.proofs.Accepted.{IsFor}
 use Rattle.td_acts.proofs.EachCommand.{accepted_unregistered, rows_are_for}
 

@@ -9,17 +9,17 @@ use Rattle.std.proofs.lemmas.Slice.Eq.{bytes_eq-Decides}
 use Rattle.td_movement.specs.declared.movement.Movement.{Movement}
 use Rattle.td_movement.specs.States.{is_counting}
 use Rattle.td_guarantee.specs.Usage.{has_ended, is_within, cents_on, lines_on, used_on}
-use Rattle.td_acts.specs.declared.rows.NewStatus.{NewStatus}
+use Rattle.td_model.specs.declared.change.NewStatus.{NewStatus}
 use Rattle.td_commands.specs.declared.said.Refusal.{Refusal}
 use Rattle.td_commands.specs.declared.said.Refusal.TheVariants.{GuaranteeEnded, OverReference}
 use Rattle.td_model.specs.Account.{Account, ReferencesDiffer, entry_in, guarantee_by_grn, movement_by_mrn}
-use Rattle.td_acts.specs.Changes.{moved}
+use Rattle.td_model.specs.Changes.{moved}
 use Rattle.td_acts.specs.Deciding.{terms_alone}
 use Rattle.td_model.specs.Sound.{IsCovered}
-use Rattle.td_acts.proofs.Cover.{lines_off}
-use Rattle.td_acts.proofs.ByKey.{KeysDiffer, behind_differ, first_differs, others_differ, each_found}
-use Rattle.td_acts.proofs.Joined.{AllByRecursion-weaker}
-use Rattle.td_acts.proofs.Steps.{used_moved}
+use Rattle.td_model.proofs.Cover.{lines_off}
+use Rattle.td_model.proofs.ByKey.{KeysDiffer, behind_differ, first_differs, others_differ, each_found}
+use Rattle.td_model.proofs.Joined.{AllByRecursion-weaker}
+use Rattle.td_model.proofs.Steps.{used_moved}
 use Rattle.td_movement.specs.declared.line.Line.{Line}
 use Rattle.td_guarantee.specs.declared.guarantee.Guarantee.{Guarantee}
 use Rattle.td_model.specs.Declaring.{refusal_or, cover_refusal, first_uncovered}

@@ -28,13 +28,13 @@ use Rattle.td_model.specs.Effects.{year2_at, openings, declarations, opened_by, 
 use Rattle.td_commands.specs.Commands.{owner_of, IsProper}
 use Rattle.td_commands.specs.Lines.{line_of}
 use Rattle.td_model.specs.Declaring.{first_refusal, has_contents, first_uncovered}
-use Rattle.td_acts.specs.Changes.{account_after, is_change, with_status}
-use Rattle.td_acts.specs.Deciding.{change_of, new_state}
+use Rattle.td_model.specs.Changes.{account_after, is_change, with_status, new_state}
+use Rattle.td_acts.specs.Deciding.{change_of}
 use Rattle.td_acts.proofs.Accepted.{IsFor, opened_facts, lodged_facts, day_is, one_code, lines_kept, named_if_fine, moved_facts, named_facts, passed, lines_passed, end_is, codes_with, codes_without}
 use Rattle.td_model.specs.Table.{stands}
 use Rattle.td_acts.proofs.Covering.{covered_when_released}
-use Rattle.td_acts.proofs.EachMove.{cancelled_from, released_from, arrived_from, judged_from, written_off_from, enquired_from}
-use Rattle.td_acts.proofs.Steps.{map-id, no_more_moved}
+use Rattle.td_model.proofs.EachMove.{cancelled_from, released_from, arrived_from, judged_from, written_off_from, enquired_from}
+use Rattle.td_model.proofs.Steps.{map-id, no_more_moved}
 use Rattle.td_guarantee.specs.Codes.{most_codes}
 
 -- where nobody is registered, only a registration is accepted

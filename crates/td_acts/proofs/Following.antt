@@ -12,23 +12,23 @@ use Rattle.td_movement.specs.declared.line.Line.{Line}
 use Rattle.td_model.specs.declared.holder_row.HolderRow.{HolderRow}
 use Rattle.td_guarantee.specs.declared.guarantee.Guarantee.{Guarantee}
 use Rattle.td_movement.specs.declared.movement.Movement.{Movement}
-use Rattle.td_acts.specs.declared.rows.Change.{Change}
-use Rattle.td_acts.specs.declared.rows.Change.TheVariants as change
+use Rattle.td_model.specs.declared.change.Change.{Change}
+use Rattle.td_model.specs.declared.change.Change.TheVariants as change
 use Rattle.td_model.specs.Account.{HolderRows, account_with, at_grn, coded, uncoded, guarantee_by_grn, movement_by_lrn, movement_by_mrn}
-use Rattle.td_acts.specs.declared.rows.NewStatus.{NewStatus}
+use Rattle.td_model.specs.declared.change.NewStatus.{NewStatus}
 use Rattle.td_movement.specs.Status.{IsStatus}
-use Rattle.td_acts.specs.Changes.{account_after, row_in, rows_after, rows_or_new, with_status, with_terms, moved}
-use Rattle.td_acts.proofs.Differing.{differ_with}
-use Rattle.td_acts.proofs.ByKey.{only_found, number_found}
+use Rattle.td_model.specs.Changes.{account_after, row_in, rows_after, rows_or_new, with_status, with_terms, moved}
+use Rattle.td_model.proofs.Differing.{differ_with}
+use Rattle.td_model.proofs.ByKey.{only_found, number_found}
 use Rattle.td_acts.proofs.SaidAnew.{found_anew, each_anew, numbered_anew}
-use Rattle.td_acts.proofs.Steps.{rows_moved, lrn_moved}
+use Rattle.td_model.proofs.Steps.{rows_moved, lrn_moved}
 use Rattle.td_model.specs.Sound.{IsGuaranteeRow, AreMovementLines, IsMovementRow, IsCovered, AreHolderRows}
 use Rattle.td_acts.specs.Deciding.{decision_on}
 use Rattle.td_acts.specs.Laws.{KeepsRowsSound}
 use Rattle.td_acts.proofs.Accepted.{IsFor, IsSaidOf}
 use Rattle.td_acts.proofs.AcceptedRows.{change_in_is_for, moment_is}
-use Rattle.td_acts.proofs.Cover.{AllByRecursion-append, unused_when_new, covered_with_accepted}
-use Rattle.td_acts.proofs.Joined.{AllPairs-append, AllPairs-map, AllNumbered-append, AllNumbered-weaker, AllByRecursion-weaker}
+use Rattle.td_model.proofs.Cover.{AllByRecursion-append, unused_when_new, covered_with_accepted}
+use Rattle.td_model.proofs.Joined.{AllPairs-append, AllPairs-map, AllNumbered-append, AllNumbered-weaker, AllByRecursion-weaker}
 use Rattle.td_model.specs.Effects.{greatest_grn_given, greatest_mrn_given}
 
 -- the row of the rows after a change is that of the change

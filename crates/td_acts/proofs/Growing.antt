@@ -9,15 +9,14 @@ use Rattle.td_guarantee.specs.declared.guarantee.Guarantee.{Guarantee}
 use Rattle.td_movement.specs.declared.movement.Movement.{Movement}
 use Rattle.td_commands.specs.declared.command.Command.{Command}
 use Rattle.td_commands.specs.declared.command.Stamped.{Stamped}
-use Rattle.td_acts.specs.declared.rows.Change.TheVariants as change
+use Rattle.td_model.specs.declared.change.Change.TheVariants as change
 use Rattle.td_model.specs.Account.{Account, IsAccountOf, ReferencesDiffer}
 use Rattle.td_model.specs.Book.{Book, Act, eori_after, eori_in, last_in, serial_in, rows_after_acts, eori_of, last_of, grn_count_before, mrn_count_before, grn_count_of, mrn_count_of, guarantees_of, movements_of, account_made, account_of, fresh_book}
 use Rattle.td_model.specs.Effects.{eori_given, guarantee_said, movement_said, openings, declarations, opened_by, declared_by}
 use Rattle.td_commands.specs.Commands.{owner_of}
 use Rattle.td_model.specs.Machine.{is_accepted_at, appended, book_after, book_after_at, AreAccepted, IsGrown}
-use Rattle.td_acts.specs.Changes.{account_after}
-use Rattle.td_acts.specs.Deciding.{decision_on, change_in}
-use Rattle.td_acts.specs.Deciding.{change_of}
+use Rattle.td_model.specs.Changes.{account_after}
+use Rattle.td_acts.specs.Deciding.{decision_on, change_in, change_of}
 use Rattle.td_acts.proofs.EachCommand.{accepted_unregistered, step_made}
 
 -- the EORI after one more act

@@ -11,7 +11,7 @@ use Rattle.td_model.specs.declared.holder_row.HolderRow.{HolderRow}
 use Rattle.td_guarantee.specs.declared.guarantee.Guarantee.{Guarantee}
 use Rattle.td_movement.specs.declared.movement.Movement.{Movement}
 use Rattle.td_movement.specs.declared.state.State.TheVariants.{Accepted}
-use Rattle.td_acts.specs.declared.rows.Change.TheVariants as change
+use Rattle.td_model.specs.declared.change.Change.TheVariants as change
 use Rattle.td_acts.specs.declared.rows.Verdict.{Verdict}
 use Rattle.td_commands.specs.declared.command.Command.TheVariants.{Ie015}
 use Rattle.td_commands.specs.declared.said.Answer.TheVariants as answer

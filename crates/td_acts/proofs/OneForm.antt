@@ -13,7 +13,7 @@ use Rattle.td_movement.specs.declared.movement.Movement.{Movement}
 use Rattle.td_model.specs.Account.{movement_by_mrn}
 use Rattle.td_model.specs.Sound.{AllNumbered, IsMovementRow}
 use Rattle.td_acts.specs.Laws.{OtherFormNamesNothing}
-use Rattle.td_acts.proofs.Differing.{numbered_mrn}
+use Rattle.td_model.proofs.Differing.{numbered_mrn}
 
 module _ (country : List ℕ) (H : ℕ) (gs : List Guarantee) (form : IsCountry country) (number : IsHolderNumber H) where
   -- a movement of this number has an MRN of this serial alone

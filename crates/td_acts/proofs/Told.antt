@@ -9,11 +9,11 @@ use Rattle.td_commands.specs.declared.said.Refusal.TheVariants.{ClockBack, NoHol
 use Rattle.td_commands.specs.declared.said.Refusal.{Refusal}
 use Rattle.td_commands.specs.declared.said.Said.{Said}
 use Rattle.td_commands.specs.declared.said.Said.TheVariants.{Answered, Refused}
-use Rattle.td_acts.specs.declared.rows.Change.{Change}
-use Rattle.td_acts.specs.declared.rows.Change.TheVariants.{Nothing, Moved}
+use Rattle.td_model.specs.declared.change.Change.{Change}
+use Rattle.td_model.specs.declared.change.Change.TheVariants.{Nothing, Moved}
 use Rattle.td_acts.specs.declared.rows.Verdict.{Verdict}
 use Rattle.td_model.specs.declared.holder_row.HolderRow.{HolderRow}
-use Rattle.td_acts.specs.declared.rows.NewStatus.{NewStatus}
+use Rattle.td_model.specs.declared.change.NewStatus.{NewStatus}
 use Rattle.td_movement.specs.declared.movement.Movement.{Movement}
 use Rattle.td_movement.specs.declared.moves.Move.{Move}
 use Rattle.td_movement.specs.Movements.{without_lines}

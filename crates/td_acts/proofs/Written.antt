@@ -2,13 +2,12 @@
 use Rattle.std.proofs.Common.{◌≡◌, ℕ, ℤ, Bool, true, false, Option, Some, None, refl}
 use Rattle.std.specs.Prelude.{if◌then◌else◌}
 use Rattle.td_base.specs.Days.{moment_of}
-use Rattle.td_acts.specs.declared.rows.Change.TheVariants as change
+use Rattle.td_model.specs.declared.change.Change.TheVariants as change
 use Rattle.td_commands.specs.declared.command.Command.{Command}
 use Rattle.td_model.specs.Account.{Account}
 use Rattle.td_model.specs.Machine.{is_accepted_at, is_accepted_in, is_accepted}
-use Rattle.td_acts.specs.Changes.{is_change}
-use Rattle.td_acts.specs.Deciding.{decision_on, change_at, change_in}
-use Rattle.td_acts.specs.Deciding.{change_of}
+use Rattle.td_model.specs.Changes.{is_change}
+use Rattle.td_acts.specs.Deciding.{decision_on, change_at, change_in, change_of}
 use Rattle.td_acts.proofs.EachCommand.{some_made}
 
 -- where the rows of a command would be some, those that are written are some just where it is accepted

@@ -9,20 +9,18 @@ use Rattle.td_guarantee.specs.declared.guarantee.Guarantee.{Guarantee}
 use Rattle.td_guarantee.specs.Terms.{without_codes}
 use Rattle.td_guarantee.specs.Usage.{used_on}
 use Rattle.td_movement.specs.Movements.{without_lines}
-use Rattle.td_movement.specs.declared.state.State.{State}
 use Rattle.td_movement.specs.declared.state.State.TheVariants.{Cancelled, Released, Enquired, Arrived, WrittenOff}
 use Rattle.td_model.specs.declared.holder_row.HolderRow.{HolderRow}
-use Rattle.td_acts.specs.declared.rows.NewStatus.{NewStatus}
-use Rattle.td_acts.specs.declared.rows.NewTerms.{NewTerms}
 use Rattle.td_acts.specs.declared.rows.Loaded.{Loaded}
-use Rattle.td_acts.specs.declared.rows.Change.{Change}
-use Rattle.td_acts.specs.declared.rows.Change.TheVariants as change
+use Rattle.td_model.specs.declared.change.Change.{Change}
+use Rattle.td_model.specs.declared.change.Change.TheVariants as change
 use Rattle.td_acts.specs.declared.rows.Verdict.{Verdict}
 use Rattle.td_commands.specs.declared.command.Command.{Command}
 use Rattle.td_commands.specs.declared.command.Command.TheVariants.{Register, OpenGuarantee, Amend, Revoke, Ie015, Ie014, AddCode, RemoveCode, Ie029, Ie007, Ie018, Ie045, Ie140}
 use Rattle.td_model.specs.Account.{Account, entry_in, guarantee_by_grn, movement_by_mrn, movement_by_lrn}
 use Rattle.td_commands.specs.Commands.{Need, nothing, lodging, movement, status, release, all_movements, guarantee, all_guarantees, need_of}
 use Rattle.td_commands.specs.Lines.{line_of}
+use Rattle.td_model.specs.Changes.{new_state, no_terms}
 use Rattle.td_model.specs.Effects.{year2_at, end_after, judged, new_holder_row, new_guarantee, new_movement}
 use Rattle.td_model.specs.Table.{listed, said, said_at}
 use Rattle.td_model.specs.Machine.{is_accepted_at}
@@ -70,14 +68,6 @@ if_row (Some row) rows_for = rows_for row
 -- the holder's row with the moment of a change
 abbrev pub touched : HolderRow → ℕ → HolderRow
 touched row t = record row { last_at = t }
-
--- nothing new of a guarantee's terms
-abbrev pub no_terms : List ℕ → NewTerms
-no_terms grn = record { grn = grn; reference = None; cover = None; ends = None }
-
--- a state with which no day and no office come
-abbrev pub new_state : List ℕ → State → NewStatus
-new_state mrn state = record { mrn = mrn; state = state; limit = None; arrival = None; actual = None }
 
 -- what the command changes where it is accepted
 abbrev pub change_of : Account → ℕ → Command → Change

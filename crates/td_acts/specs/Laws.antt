@@ -5,13 +5,13 @@ use Rattle.td_base.specs.References.{IsMrnSerial, mrn_text, older_mrn_text}
 use Rattle.td_commands.specs.declared.command.Command.{Command}
 use Rattle.td_commands.specs.declared.command.Stamped.{Stamped}
 use Rattle.td_model.specs.declared.holder_row.HolderRow.{HolderRow}
-use Rattle.td_acts.specs.declared.rows.Change.{Change}
-use Rattle.td_acts.specs.declared.rows.Change.TheVariants.{Nothing}
+use Rattle.td_model.specs.declared.change.Change.{Change}
+use Rattle.td_model.specs.declared.change.Change.TheVariants.{Nothing}
 use Rattle.td_model.specs.Account.{Account, HolderRows, account_with, empty_account, IsAccountOf, ReferencesDiffer, movement_by_mrn}
 use Rattle.td_model.specs.Book.{Book, account_of, fresh_book}
 use Rattle.td_commands.specs.Commands.{owner_of, IsProper}
 use Rattle.td_model.specs.Machine.{is_accepted, book_after, IsGrown}
-use Rattle.td_acts.specs.Changes.{is_change, row_in, rows_after, rows_or_new, account_after}
+use Rattle.td_model.specs.Changes.{is_change, row_in, rows_after, rows_or_new, account_after}
 use Rattle.td_acts.specs.Deciding.{decision_on}
 use Rattle.td_model.specs.Sound.{AreHolderRows}
 

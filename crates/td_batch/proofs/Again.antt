@@ -1,6 +1,5 @@
 -- A declaration that is sent again: it isn't accepted once more, and what was answered to it is answered again.
-use Rattle.std.proofs.Common.{◌≡◌, ◌⊎◌, inl, inr, ℕ, ℤ, ◌+◌, ◌≤◌, Bool, true, false, List, [], ◌∷◌, ◌++◌, map, Option, Some, None}
-use Rattle.std.proofs.Common.{refl, sym, ◌∙◌, ap, subst, arith}
+use Rattle.std.proofs.Common.{◌≡◌, ◌⊎◌, inl, inr, ℕ, ℤ, ◌+◌, ◌≤◌, Bool, true, false, List, [], ◌∷◌, ◌++◌, map, Option, Some, None, refl, sym, ◌∙◌, ap, subst, arith}
 use Rattle.std.proofs.lemmas.Bool.{eq-eqb}
 use Rattle.std.proofs.lemmas.Bool.Decides.{nat_tests}
 use Rattle.std.proofs.lemmas.List.{append-nil, map-append}
@@ -18,9 +17,7 @@ use Rattle.td_movement.specs.declared.movement.Movement.{Movement}
 use Rattle.td_commands.specs.Lines.{line_of}
 use Rattle.td_commands.specs.Commands.{owner_of}
 use Rattle.td_commands.specs.declared.command.Command.{Command}
-use Rattle.td_commands.specs.declared.command.Command.TheVariants.{Register, OpenGuarantee, Amend, Revoke, AddCode, RemoveCode}
-use Rattle.td_commands.specs.declared.command.Command.TheVariants.{Ie015, Ie014, Ie029, Ie007, Ie018, Ie045, Ie140}
-use Rattle.td_commands.specs.declared.command.Command.TheVariants.{SeeHolder, SeeMovement, SeeMovements, SeeGuarantee, SeeGuarantees}
+use Rattle.td_commands.specs.declared.command.Command.TheVariants.{Register, OpenGuarantee, Amend, Revoke, AddCode, RemoveCode, Ie015, Ie014, Ie029, Ie007, Ie018, Ie045, Ie140, SeeHolder, SeeMovement, SeeMovements, SeeGuarantee, SeeGuarantees}
 use Rattle.td_commands.specs.declared.command.Stamped.{Stamped}
 use Rattle.td_commands.specs.declared.said.Answer.{Answer}
 use Rattle.td_commands.specs.declared.said.Answer.TheVariants as answer
@@ -28,16 +25,14 @@ use Rattle.td_commands.specs.declared.said.Refusal.{Refusal}
 use Rattle.td_commands.specs.declared.said.Refusal.TheVariants.{ClockBack, LrnUsed, SerialsSpent}
 use Rattle.td_commands.specs.declared.said.Said.TheVariants.{Answered, Refused}
 use Rattle.td_model.specs.Account.{Account, movement_by_lrn}
-use Rattle.td_model.specs.Book.{Book, Act, eori_after, eori_in, serial_in, rows_after_acts, grn_count_before, mrn_count_before}
-use Rattle.td_model.specs.Book.{eori_of, last_of, grn_count_of, mrn_count_of, guarantees_of, movements_of, account_made, account_of}
+use Rattle.td_model.specs.Book.{Book, Act, eori_after, eori_in, serial_in, rows_after_acts, grn_count_before, mrn_count_before, eori_of, last_of, grn_count_of, mrn_count_of, guarantees_of, movements_of, account_made, account_of}
 use Rattle.td_model.specs.Declaring.{has_contents, first_refusal, is_same_line}
-use Rattle.td_model.specs.Effects.{eori_given, guarantee_said, movement_said, openings, declarations, opened_by, declared_by}
-use Rattle.td_model.specs.Effects.{year2_at, greatest_mrn_given, new_movement}
+use Rattle.td_model.specs.Effects.{eori_given, guarantee_said, movement_said, openings, declarations, opened_by, declared_by, year2_at, greatest_mrn_given, new_movement}
 use Rattle.td_model.specs.Table.{said_at, said_in, if_lrn_new, if_not_refused}
 use Rattle.td_model.specs.Machine.{is_accepted_at, is_accepted_in, is_accepted, verdict, appended, book_after_at, book_after, machine_book}
 use Rattle.td_acts.proofs.Accepted.{lodged_facts}
-use Rattle.td_acts.proofs.Joined.{AllByRecursion-map, AllByRecursion-weaker}
-use Rattle.td_acts.proofs.Steps.{map-id}
+use Rattle.td_model.proofs.Joined.{AllByRecursion-map, AllByRecursion-weaker}
+use Rattle.td_model.proofs.Steps.{map-id}
 use Rattle.td_batch_rows.specs.Declarations.{IsDeclaration}
 use Rattle.td_batch.specs.Runs.{at_moment}
 use Rattle.td_batch.specs.Again.{IsDeclaredAt}

@@ -15,11 +15,11 @@ use Rattle.td_model.specs.Machine.{is_accepted, machine_book}
 use Rattle.td_desk.specs.declared.fault.Fault.TheVariants as fault
 use Rattle.td_desk.specs.declared.running.Outcome.{Outcome}
 use Rattle.td_desk.specs.declared.running.Outcome.TheVariants as outcome
-use Rattle.td_desk.specs.Content.{Content, fresh, IsSound}
+use Rattle.td_model.specs.Content.{Content, fresh, IsSound}
 use Rattle.td_desk.specs.Runs.{heard, is_holder, IsRun, IsTied}
 use Rattle.td_desk.specs.View.{DeskView}
-use Rattle.td_desk.specs.Weighing.{account_for, owner_account}
-use Rattle.td_desk.proofs.Fresh.{account_fresh}
+use Rattle.td_acts.specs.Weighing.{account_for, owner_account}
+use Rattle.td_acts.proofs.Fresh.{account_fresh}
 use Rattle.td_batch_rows.specs.Declarations.{IsDeclaration}
 use Rattle.td_batch.specs.declared.running.BatchRun.{BatchRun}
 use Rattle.td_batch.specs.Results.{declaration_result, declarations_header}

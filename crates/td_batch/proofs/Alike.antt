@@ -3,12 +3,12 @@ use Rattle.std.proofs.Common.{◌≡◌, ℕ, ℤ, List, ap, subst, sym}
 use Rattle.td_commands.specs.declared.command.Command.{Command}
 use Rattle.td_commands.specs.declared.said.Said.{Said}
 use Rattle.td_model.specs.Book.{fresh_book}
-use Rattle.td_desk.specs.Content.{Content, fresh, IsSound}
+use Rattle.td_model.specs.Content.{Content, fresh, IsSound}
 use Rattle.td_desk.specs.Runs.{IsRun, IsTied}
 use Rattle.td_desk.specs.View.{DeskView}
 use Rattle.td_desk.proofs.Agreeing.{heard_alike}
 use Rattle.td_desk.proofs.Agreeing as runs
-use Rattle.td_desk.proofs.Fresh.{account_fresh}
+use Rattle.td_acts.proofs.Fresh.{account_fresh}
 use Rattle.td_batch.specs.declared.running.BatchRun.{BatchRun}
 use Rattle.td_batch.specs.Laws.{AgreeingBatchesTellTheSame, stamped_rows}
 use Rattle.td_batch.specs.Runs.{IsBatchDone, outcomes_of}

@@ -17,10 +17,10 @@ use Rattle.td_model.specs.Machine.{appended, book_after, book_after_at, is_accep
 use Rattle.td_desk.specs.declared.fault.Fault.{Fault}
 use Rattle.td_desk.specs.declared.running.Outcome.{Outcome}
 use Rattle.td_desk.specs.declared.running.Outcome.TheVariants as outcome
-use Rattle.td_desk.specs.Content.{Content, account_in, fresh, IsSound}
+use Rattle.td_model.specs.Content.{Content, account_in, fresh, IsSound}
 use Rattle.td_desk.specs.Runs.{heard, is_holder, IsRun, IsTied}
 use Rattle.td_desk.specs.View.{DeskView}
-use Rattle.td_desk.proofs.Fresh.{account_fresh}
+use Rattle.td_acts.proofs.Fresh.{account_fresh}
 use Rattle.td_batch_rows.specs.Declarations.{IsDeclaration}
 use Rattle.td_batch.specs.declared.running.BatchRun.{BatchRun}
 use Rattle.td_batch.specs.Laws.{AnsweredAgain, IsSaidTo}

@@ -5,9 +5,9 @@ use Rattle.std.specs.List.{FoldsTo, list_any}
 use Rattle.std.proofs.lemmas.Fn.{FoldsTo-push}
 use Rattle.std.proofs.lemmas.List.Folds.{list_any-append}
 use Rattle.std.proofs.lemmas.List.{append_assoc, append-nil, map-append, length-append, length-map, length-take-le, take-map}
-use Rattle.td_acts.specs.declared.rows.Change.{Change}
-use Rattle.td_acts.specs.declared.rows.Change.TheVariants as change
-use Rattle.td_acts.specs.Changes.{is_change}
+use Rattle.td_model.specs.declared.change.Change.{Change}
+use Rattle.td_model.specs.declared.change.Change.TheVariants as change
+use Rattle.td_model.specs.Changes.{is_change}
 use Rattle.td_commands.specs.declared.command.Command.{Command}
 use Rattle.td_commands.specs.declared.said.Said.{Said}
 use Rattle.td_commands.specs.declared.said.Said.TheVariants.{Answered, Refused}

@@ -5,7 +5,7 @@ use Rattle.std.proofs.lemmas.List.{append_assoc, append-nil, map-append}
 use Rattle.td_commands.specs.declared.command.Command.{Command}
 use Rattle.td_model.specs.Book.{Book}
 use Rattle.td_desk.specs.declared.running.Outcome.{Outcome}
-use Rattle.td_desk.specs.Content.{Content, IsSound}
+use Rattle.td_model.specs.Content.{Content, IsSound}
 use Rattle.td_desk.specs.Runs.{IsRun, IsTied}
 use Rattle.td_desk.specs.View.{DeskView}
 use Rattle.td_desk.proofs.Turns.{run_on}

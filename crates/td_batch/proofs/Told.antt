@@ -8,7 +8,7 @@ use Rattle.td_model.specs.Book.{Book}
 use Rattle.td_model.specs.Machine.{book_after, machine_book, machine_says, verdict}
 use Rattle.td_desk.specs.declared.running.Outcome.{Outcome}
 use Rattle.td_desk.specs.declared.running.Outcome.TheVariants as outcome
-use Rattle.td_desk.specs.Content.{Content}
+use Rattle.td_model.specs.Content.{Content}
 use Rattle.td_desk.specs.Runs.{heard, is_holder, told, IsRun}
 
 -- ---- lists

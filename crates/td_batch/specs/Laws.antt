@@ -11,7 +11,7 @@ use Rattle.td_commands.specs.declared.said.Said.TheVariants.{Answered}
 use Rattle.td_model.specs.declared.holder_row.HolderRow.{HolderRow}
 use Rattle.td_model.specs.Book.{Book}
 use Rattle.td_model.specs.Machine.{machine_book}
-use Rattle.td_desk.specs.Content.{Content, account_in, IsSound}
+use Rattle.td_model.specs.Content.{Content, account_in, IsSound}
 use Rattle.td_desk.specs.Runs.{Agree, failures, IsTied, told}
 use Rattle.td_desk.specs.View.{DeskView}
 use Rattle.td_batch_rows.specs.Declarations.{IsDeclaration}

@@ -11,10 +11,10 @@ use Rattle.td_desk.specs.declared.fault.Fault.{Fault}
 use Rattle.td_desk.specs.declared.fault.Fault.TheVariants as fault
 use Rattle.td_desk.specs.declared.running.Outcome.{Outcome}
 use Rattle.td_desk.specs.declared.running.Outcome.TheVariants as outcome
-use Rattle.td_desk.specs.Content.{Content, IsSound}
+use Rattle.td_model.specs.Content.{Content, IsSound}
 use Rattle.td_desk.specs.Runs.{is_failed, IsOutcomeOf, IsRun, IsStep, IsTied, LeavesAfter}
 use Rattle.td_desk.specs.View.{DeskView, IsSettled}
-use Rattle.td_desk.specs.Weighing.{owner_account}
+use Rattle.td_acts.specs.Weighing.{owner_account}
 use Rattle.td_model.specs.Machine.{is_accepted}
 use Rattle.td_batch.specs.declared.running.BatchRun.{BatchRun}
 use Rattle.td_batch.specs.Results.{result_rows}

@@ -1,7 +1,7 @@
 -- What two jobs tell one holder alike.
 use Rattle.std.proofs.Common.{◌≡◌, ℕ, List, ◌∙◌, ap, subst, sym}
 use Rattle.td_model.specs.Book.{fresh_book}
-use Rattle.td_desk.specs.Content.{Content, account_in, empty_content}
+use Rattle.td_model.specs.Content.{Content, account_in, empty_content}
 use Rattle.http_wire.specs.Stream.{Exchange}
 use Rattle.td_http.specs.Laws.{TellAlike}
 use Rattle.td_http.specs.Serving.{IsServed}

@@ -1,11 +1,11 @@
 -- What is known of a desk as a job begins.
 use Rattle.std.proofs.Common.{ℕ, List, sym}
 use Rattle.sqlite_wal.specs.Recovery.{Image}
-use Rattle.td_desk.specs.Content.{Content}
+use Rattle.td_model.specs.Content.{Content}
 use Rattle.sqlite_disk.specs.declared.Disk.{Ghosts}
 use Rattle.td_files.specs.Found.{FileSeen, over_file}
 use Rattle.td_desk.specs.Runs.{IsTied}
-use Rattle.td_desk.proofs.Fresh.{account_fresh}
+use Rattle.td_acts.proofs.Fresh.{account_fresh}
 use Rattle.td_jobs.specs.Desks.{IsReady, fresh_books}
 use Rattle.td_cli.specs.Desks.{BeginsKept, BeginsMade}
 

@@ -5,7 +5,7 @@ use Rattle.sqlite_disk.specs.declared.Disk.{Ghosts}
 use Rattle.td_model.specs.Account.{Account, empty_account}
 use Rattle.td_model.specs.Book.{Book, account_of}
 use Rattle.td_model.specs.Machine.{IsGrown}
-use Rattle.td_desk.specs.Content.{Content, account_in, fresh, rows_of}
+use Rattle.td_model.specs.Content.{Content, account_in, fresh, rows_of}
 use Rattle.td_desk.specs.Laws.{FreshBooksAreTied}
 use Rattle.td_desk.specs.Runs.{IsTied}
 use Rattle.td_extract.specs.Between.{content_between, is_between}

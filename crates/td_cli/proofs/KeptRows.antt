@@ -7,7 +7,7 @@ use Rattle.td_model.specs.Book.{Book}
 use Rattle.td_model.specs.Machine.{machine_book}
 use Rattle.td_desk.specs.declared.running.Outcome.{Outcome}
 use Rattle.td_desk.specs.declared.running.Outcome.TheVariants as outcome
-use Rattle.td_desk.specs.Content.{Content, IsSound}
+use Rattle.td_model.specs.Content.{Content, IsSound}
 use Rattle.td_desk.specs.Runs.{heard, is_failed, IsTied, LeavesAfter}
 use Rattle.td_desk.specs.View.{DeskView}
 use Rattle.td_http.specs.Kept.{books_with}

@@ -12,7 +12,7 @@ use Rattle.td_commands.specs.declared.said.Said.{Said}
 use Rattle.td_model.specs.Book.{Book, account_of, fresh_book}
 use Rattle.td_model.specs.Machine.{book_after, machine_book, machine_says, IsGrown}
 use Rattle.td_desk.specs.declared.running.Outcome.{Outcome}
-use Rattle.td_desk.specs.Content.{Content, IsSound}
+use Rattle.td_model.specs.Content.{Content, IsSound}
 use Rattle.td_desk.specs.Runs as desk
 use Rattle.http_wire.specs.Stream.{Exchange}
 use Rattle.td_http.specs.Private.{heard_over, told_over, IsServedOver}

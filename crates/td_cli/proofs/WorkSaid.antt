@@ -6,7 +6,7 @@ use Rattle.sqlite.specs.Files.{image_of}
 use Rattle.sqlite_disk.specs.declared.Disk.{Ghosts}
 use Rattle.td_base.specs.Codes.{IsCountry}
 use Rattle.td_commands.specs.declared.command.Command.{Command}
-use Rattle.td_desk.specs.Content.{IsSound, empty_content}
+use Rattle.td_model.specs.Content.{IsSound, empty_content}
 use Rattle.td_desk.specs.View.{DeskView}
 use Rattle.td_desk.specs.declared.plain.PlainDesk.{PlainDesk}
 use Rattle.td_files.specs.Found.{FileHeld, FileSeen, over_file}

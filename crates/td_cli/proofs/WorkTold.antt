@@ -13,7 +13,7 @@ use Rattle.td_commands.specs.declared.command.Command.{Command}
 use Rattle.td_commands.specs.declared.command.Stamped.{Stamped}
 use Rattle.td_commands.specs.declared.said.Said.{Said}
 use Rattle.td_desk.proofs.Turns.{run_on}
-use Rattle.td_desk.specs.Content.{Content, IsSound, account_in, rows_of}
+use Rattle.td_model.specs.Content.{Content, IsSound, account_in, rows_of}
 use Rattle.td_desk.specs.Runs.{IsTied}
 use Rattle.td_desk.specs.View.{DeskView}
 use Rattle.td_desk.specs.declared.running.Outcome.{Outcome}

@@ -4,7 +4,7 @@ use Rattle.sqlite.specs.Files.{file_state}
 use Rattle.sqlite_disk.specs.declared.Disk.{Ghosts}
 use Rattle.sqlite_wal.specs.Recovery.{Image}
 use Rattle.td_model.specs.Book.{Book}
-use Rattle.td_desk.specs.Content.{Content, fresh, rows_of}
+use Rattle.td_model.specs.Content.{Content, fresh, rows_of}
 use Rattle.td_desk.specs.Runs.{IsTied}
 use Rattle.td_extract.specs.Between.{content_between, is_between}
 use Rattle.td_files.specs.Extracted.{ShowsMade}

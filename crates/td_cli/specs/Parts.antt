@@ -8,7 +8,7 @@ use Rattle.td_commands.specs.declared.said.Said.{Said}
 use Rattle.td_model.specs.Book.{Book}
 use Rattle.td_model.specs.Machine.{book_after, machine_book, verdict}
 use Rattle.td_desk.specs.declared.running.Outcome.{Outcome}
-use Rattle.td_desk.specs.Content.{Content, IsSound}
+use Rattle.td_model.specs.Content.{Content, IsSound}
 use Rattle.td_desk.specs.Runs as desk
 use Rattle.td_answers.specs.Answers.{said_reply}
 use Rattle.http_wire.specs.Stream.{Exchange}

@@ -5,7 +5,7 @@ use Rattle.sqlite_trees.specs.Tree.{Trees}
 use Rattle.sqlite_wal.specs.Recovery.{Image}
 use Rattle.sqlite.specs.Files.{HoldsDatabase, file_state}
 use Rattle.td_model.specs.Book.{Book}
-use Rattle.td_desk.specs.Content.{IsSound}
+use Rattle.td_model.specs.Content.{IsSound}
 use Rattle.td_desk.specs.Runs.{IsTied}
 use Rattle.http_wire.specs.Stream.{Exchange}
 use Rattle.td_http.specs.Private.{IsServedOver}

@@ -4,7 +4,7 @@ use Rattle.std.specs.List.{AllByRecursion}
 use Rattle.td_model.specs.Account.{Account}
 use Rattle.td_model.specs.Book.{Book, account_of}
 use Rattle.td_model.specs.Sound.{IsCovered}
-use Rattle.td_desk.specs.Content.{Content}
+use Rattle.td_model.specs.Content.{Content}
 use Rattle.td_desk.specs.Runs.{IsTied}
 use Rattle.td_desk.specs.View.{DeskView}
 use Rattle.td_cli.specs.Parts.{Part, book_of, heard_of, machine_tells, told_of}

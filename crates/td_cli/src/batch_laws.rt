@@ -5,7 +5,7 @@ ghost use Rattle.sqlite.specs.Files.{file_state};
 ghost use Rattle.sqlite_wal.specs.Recovery.{Image};
 ghost use Rattle.http_wire.specs.Stream.{Exchange};
 ghost use Rattle.td_commands.specs.declared.command.Command.{Command};
-ghost use Rattle.td_desk.specs.Content.{Content};
+ghost use Rattle.td_model.specs.Content.{Content};
 ghost use Rattle.td_batch.specs.declared.running.BatchRun.{BatchRun};
 ghost use Rattle.td_batch.specs.Laws.{IsLater};
 ghost use Rattle.td_batch.specs.Runs.{IsBatchDone, IsRunOf, outcomes_of, tried};

@@ -7,7 +7,7 @@ use Rattle.td_commands.specs.Commands.{owner_of}
 use Rattle.td_model.specs.Machine.{machine_says}
 use Rattle.td_desk.specs.declared.running.Outcome.{Outcome}
 use Rattle.td_desk.specs.declared.running.Outcome.TheVariants as outcome
-use Rattle.td_desk.specs.Content.{Content}
+use Rattle.td_model.specs.Content.{Content}
 use Rattle.td_desk.specs.Runs.{is_holder, is_failed, part, Agree, failures, heard, told, IsRun}
 
 -- the commands of a part at which there was no failure

@@ -1,16 +1,16 @@
 -- What a crash leaves after a command that was weighed, and perhaps carried.
 use Rattle.std.proofs.Common.{◌≡◌, ◌≢◌, ◌∙◌, Bool, true, false, sym, ap, subst, inl, inr, refl}
-use Rattle.td_acts.specs.declared.rows.Change.{Change}
-use Rattle.td_acts.specs.declared.rows.Change.TheVariants as change
+use Rattle.td_model.specs.declared.change.Change.{Change}
+use Rattle.td_model.specs.declared.change.Change.TheVariants as change
 use Rattle.td_acts.specs.declared.rows.Verdict.{Verdict}
-use Rattle.td_acts.specs.Changes.{is_change}
+use Rattle.td_model.specs.Changes.{is_change}
 use Rattle.td_commands.specs.declared.command.Stamped.{Stamped}
 use Rattle.td_commands.specs.Commands.{IsProper}
-use Rattle.td_desk.specs.Content.{Content, content_after, IsSound}
+use Rattle.td_model.specs.Content.{Content, content_after, IsSound}
 use Rattle.td_desk.specs.Runs.{LeavesAfter}
 use Rattle.td_desk.specs.View.{AddsAtMost, DeskView, IsSettled}
-use Rattle.td_desk.specs.Weighing.{IsWeighed, Carries}
-use Rattle.td_desk.proofs.Carrying.{carries}
+use Rattle.td_acts.specs.Weighing.{IsWeighed, Carries}
+use Rattle.td_acts.proofs.Carrying.{carries}
 
 -- a change that is one is not nothing, and one that is none is
 is_no_nothing : (c : Change) → is_change c ≡ true → c ≢ change.Nothing

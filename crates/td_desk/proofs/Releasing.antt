@@ -24,12 +24,12 @@ use Rattle.td_model.specs.Sound.{AreHolderRows, IsMovementRow}
 use Rattle.td_model.specs.Table.{if_not_refused, is_back, or_refuse, refuse_if, said, said_in, said_on_ie029}
 use Rattle.td_model.specs.declared.holder_row.HolderRow.{HolderRow}
 use Rattle.keyed_rows.proofs.Putting.{All-row_at}
-use Rattle.td_acts.proofs.ByKey.{number_found}
+use Rattle.td_model.proofs.ByKey.{number_found}
 use Rattle.td_acts.specs.declared.rows.Verdict.{Verdict}
-use Rattle.td_desk.specs.Content.{Content, IsSound, rows_of}
+use Rattle.td_model.specs.Content.{Content, IsSound, rows_of}
 use Rattle.td_desk.specs.Laws.{ReleasesFindTheirGuarantees}
-use Rattle.td_desk.specs.Weighing.{IsWeighed, kept_for, owner_account}
-use Rattle.td_desk.proofs.Fresh.{owner_account_is_kept}
+use Rattle.td_acts.specs.Weighing.{IsWeighed, kept_for, owner_account}
+use Rattle.td_acts.proofs.Fresh.{owner_account_is_kept}
 
 -- the guarantee of a line is there
 abbrev IsThere : (List ℕ → Option (Guarantee × ℕ)) → Line → Type 0

@@ -3,9 +3,9 @@ use Rattle.std.proofs.Common.{◌≡◌, ◌≢◌, ℕ, ◌<◌, List, [], leng
 use Rattle.std.specs.Prelude.{insert, OnOk, OnErr}
 use Rattle.std.specs.declared.alloc.AllocError.{AllocError}
 use Rattle.td_model.specs.declared.holder_row.HolderRow.{HolderRow}
-use Rattle.td_acts.specs.declared.rows.Change.{Change}
+use Rattle.td_model.specs.declared.change.Change.{Change}
 use Rattle.td_model.specs.Account.{HolderRows, holder_key}
-use Rattle.td_acts.specs.Changes.{row_in, rows_after, rows_or_new}
+use Rattle.td_model.specs.Changes.{row_in, rows_after, rows_or_new}
 use Rattle.keyed_rows.specs.Rows.{Rises, row_at, put_row}
 use Rattle.td_acts.proofs.Following.{row_after}
 use Rattle.keyed_rows.proofs.Putting.{Rises-put_row}

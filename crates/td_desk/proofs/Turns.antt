@@ -13,18 +13,18 @@ use Rattle.td_model.specs.Book.{Book, account_of}
 use Rattle.td_commands.specs.Commands.{owner_of}
 use Rattle.td_model.specs.Table.{said}
 use Rattle.td_model.specs.Machine.{verdict, book_after, machine_says, machine_book, IsGrown}
-use Rattle.td_acts.specs.Changes.{account_after}
+use Rattle.td_model.specs.Changes.{account_after}
 use Rattle.td_acts.specs.Deciding.{decision_on}
 use Rattle.td_acts.proofs.Growing.{account_said_after, grown_after}
 use Rattle.td_acts.proofs.Machines.{machine_says-append, machine_book-append}
 use Rattle.td_desk.specs.declared.fault.Fault.{Fault}
 use Rattle.td_desk.specs.declared.running.Outcome.{Outcome}
 use Rattle.td_desk.specs.declared.running.Outcome.TheVariants as outcome
-use Rattle.td_desk.specs.Content.{Content, account_in, fresh}
-use Rattle.td_desk.specs.Weighing.{owner_account, account_for, Carries}
+use Rattle.td_model.specs.Content.{Content, account_in, fresh}
+use Rattle.td_acts.specs.Weighing.{owner_account, account_for, Carries}
 use Rattle.td_desk.specs.Runs.{is_holder, heard, told, IsToldOfNobody, Performs, IsStep, IsRun}
-use Rattle.td_desk.proofs.Differing.{references_differ}
-use Rattle.td_desk.proofs.Fresh.{account_fresh}
+use Rattle.td_model.proofs.Kept.{references_differ}
+use Rattle.td_acts.proofs.Fresh.{account_fresh}
 
 heard-append : (c : List ℕ) (H : ℕ) (list : List Stamped) (outcomes : List Outcome) (s : Stamped) (o : Outcome) → length outcomes ≡ length list → heard c H (list ++ s ∷ []) (outcomes ++ o ∷ []) ≡ heard c H list outcomes ++ heard c H (s ∷ []) (o ∷ [])
 heard-append c H [] [] s o same = refl

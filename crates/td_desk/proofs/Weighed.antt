@@ -4,13 +4,13 @@ use Rattle.td_acts.specs.declared.rows.Loaded.{Loaded}
 use Rattle.td_acts.specs.declared.rows.Verdict.{Verdict}
 use Rattle.td_commands.specs.declared.command.Command.{Command}
 use Rattle.td_model.specs.Account.{Account}
-use Rattle.td_acts.specs.Changes.{is_change}
+use Rattle.td_model.specs.Changes.{is_change}
 use Rattle.td_acts.specs.Deciding.{IsLoaded, IsVerdict, decision_on}
 use Rattle.td_commands.specs.Commands.{need_of}
 use Rattle.td_acts.proofs.Written.{written_is_accepted}
-use Rattle.td_desk.specs.Content.{Content}
-use Rattle.td_desk.specs.Weighing.{owner_account, kept_of, IsWeighed}
-use Rattle.td_desk.proofs.Fresh.{owner_account_is_kept}
+use Rattle.td_model.specs.Content.{Content}
+use Rattle.td_acts.specs.Weighing.{owner_account, kept_of, IsWeighed}
+use Rattle.td_acts.proofs.Fresh.{owner_account_is_kept}
 
 -- the model's verdict is the decision
 decision_of : (rows : Content) (at : ℤ) (command : Command) (v : Verdict) → v ≡ decision_on (owner_account rows command) at command → IsWeighed rows at command v

@@ -9,9 +9,9 @@ use Rattle.td_model.specs.Table.{said}
 use Rattle.td_model.specs.Account.{empty_account}
 use Rattle.td_model.specs.Book.{Book, fresh_book}
 use Rattle.td_desk.specs.declared.running.Outcome.{Outcome}
-use Rattle.td_desk.specs.Content.{Content, fresh, empty_content, IsSound}
+use Rattle.td_model.specs.Content.{Content, fresh, empty_content, IsSound}
 use Rattle.td_desk.specs.Runs.{Agree, failures, heard, told, IsTied, IsRun}
-use Rattle.td_desk.specs.Weighing.{owner_account}
+use Rattle.td_acts.specs.Weighing.{owner_account}
 
 -- an empty desk is sound, and tied to empty books
 abbrev pub EmptyDeskIsTied : Type 0

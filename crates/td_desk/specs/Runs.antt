@@ -10,9 +10,9 @@ use Rattle.td_model.specs.Table.{said}
 use Rattle.td_model.specs.Machine.{is_accepted, machine_says, machine_book, IsGrown}
 use Rattle.td_desk.specs.declared.running.Outcome.{Outcome}
 use Rattle.td_desk.specs.declared.running.Outcome.TheVariants as outcome
-use Rattle.td_desk.specs.Content.{Content, account_in, IsSound}
+use Rattle.td_model.specs.Content.{Content, account_in, IsSound}
 use Rattle.td_desk.specs.View.{AddsAtMost, DeskView, LeavesOnly}
-use Rattle.td_desk.specs.Weighing.{owner_account, Carries}
+use Rattle.td_acts.specs.Weighing.{owner_account, Carries}
 
 abbrev pub is_holder : ℕ → Option ℕ → Bool
 is_holder H None = false

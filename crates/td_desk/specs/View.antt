@@ -2,7 +2,7 @@
 use Rattle.std.specs.Prelude.{◌≡◌, ◌⊎◌, Option}
 use Rattle.td_commands.specs.declared.command.Stamped.{Stamped}
 use Rattle.td_desk.specs.declared.fault.Fault.{Fault}
-use Rattle.td_desk.specs.Content.{Content}
+use Rattle.td_model.specs.Content.{Content}
 
 pub record DeskView (D : Type 0) : Type 1 where
   -- its country and rows

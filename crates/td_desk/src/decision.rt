@@ -1,6 +1,6 @@
 //! Decisions.
 ghost use Rattle.std.specs.Prelude.{◌≡◌};
-ghost use Rattle.td_acts.specs.Changes.{is_change};
+ghost use Rattle.td_model.specs.Changes.{is_change};
 
 use std::marker::Model;
 use td_acts::{Change, Said, Verdict};

@@ -3,11 +3,11 @@ ghost use Rattle.std.specs.Prelude.{◌≡◌, ◌≢◌, ℤ, IfOk, OnOk, OnErr
 ghost use Rattle.std.specs.Result.{result_err};
 ghost use Rattle.td_desk.specs.declared.fault.Fault.{Fault};
 ghost use Rattle.td_acts.specs.declared.rows.Verdict.{Verdict};
-ghost use Rattle.td_acts.specs.declared.rows.Change.TheVariants as change;
+ghost use Rattle.td_model.specs.declared.change.Change.TheVariants as change;
 ghost use Rattle.td_commands.specs.declared.command.Stamped.{Stamped};
 ghost use Rattle.td_commands.specs.Commands.{IsProper};
-ghost use Rattle.td_desk.specs.Content.{IsSound, content_after};
-ghost use Rattle.td_desk.specs.Weighing.{IsWeighed, Carries};
+ghost use Rattle.td_model.specs.Content.{IsSound, content_after};
+ghost use Rattle.td_acts.specs.Weighing.{IsWeighed, Carries};
 ghost use Rattle.td_desk.specs.View.{AddsAtMost, DeskView, LeavesOnly};
 
 use crate::decision::Decision;

@@ -1,9 +1,9 @@
 //! The plain desk: its rows stand in memory, and no store is behind it.
 ghost use Rattle.std.specs.Prelude.{◌≡◌, ◌≢◌, Some, IfOk, OnOk, OnErr};
-ghost use Rattle.td_acts.specs.Changes.{row_in, rows_after, rows_or_new};
+ghost use Rattle.td_model.specs.Changes.{row_in, rows_after, rows_or_new};
 ghost use Rattle.keyed_rows.specs.Rows.{Rises, Rises-prop, row_at, put_row};
 ghost use Rattle.td_model.specs.Account.{holder_key};
-ghost use Rattle.td_desk.specs.Content.{empty_content, IsSound};
+ghost use Rattle.td_model.specs.Content.{empty_content, IsSound};
 
 use crate::fault::Fault;
 use crate::store::Store;

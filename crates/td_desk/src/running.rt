@@ -4,7 +4,7 @@ ghost use Rattle.td_commands.specs.declared.command.Command.TheVariants as comma
 ghost use Rattle.td_commands.specs.declared.said.Refusal.TheVariants as refusal;
 ghost use Rattle.td_commands.specs.declared.said.Said.TheVariants as said;
 ghost use Rattle.td_model.specs.Book.{Book};
-ghost use Rattle.td_desk.specs.Content.{Content, IsSound};
+ghost use Rattle.td_model.specs.Content.{Content, IsSound};
 ghost use Rattle.td_desk.specs.Runs.{IsOutcomeOf, AreOutcomesOf, IsStep, IsTied, IsRun, LeavesAfter, is_failed};
 ghost use Rattle.td_desk.specs.View.{IsSettled};
 

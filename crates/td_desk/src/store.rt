@@ -5,10 +5,10 @@ ghost use Rattle.td_desk.specs.declared.fault.Fault.{Fault};
 ghost use Rattle.td_acts.specs.Deciding.{IsLoaded};
 ghost use Rattle.td_commands.specs.Commands.{need_said};
 ghost use Rattle.td_commands.specs.declared.command.Stamped.{Stamped};
-ghost use Rattle.td_acts.specs.declared.rows.Change.TheVariants as changes;
-ghost use Rattle.td_desk.specs.Content.{content_after, IsSound};
+ghost use Rattle.td_model.specs.declared.change.Change.TheVariants as changes;
+ghost use Rattle.td_model.specs.Content.{content_after, IsSound};
 ghost use Rattle.td_acts.specs.declared.rows.Verdict.{Verdict};
-ghost use Rattle.td_desk.specs.Weighing.{kept_for, IsDecision};
+ghost use Rattle.td_acts.specs.Weighing.{kept_for, IsDecision};
 ghost use Rattle.td_desk.specs.View.{AddsAtMost, DeskView, LeavesOnly};
 
 use crate::decision::Decision;

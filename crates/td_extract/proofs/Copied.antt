@@ -9,7 +9,7 @@ use Rattle.sqlite.proofs.StateLemmas.{survives_then}
 use Rattle.typed_sql.specs.Outside.{Looks}
 use Rattle.sqlite.specs.Effect.{Database}
 use Rattle.sqlite.specs.State.{State, HasCleanDisk, IsRolledBack, Survives}
-use Rattle.td_desk.specs.Content.{Content}
+use Rattle.td_model.specs.Content.{Content}
 use Rattle.td_table_model.specs.Tables.{Tables}
 use Rattle.typed_sql.specs.Reading.{HasOnlyRead, IsInside, StaysInside}
 use Rattle.typed_sql.proofs.OnlyRead.{none_read, stays_nothing, stays_on}

@@ -6,7 +6,7 @@ use Rattle.sqlite_trees.specs.Tree.{Trees}
 use Rattle.sqlite.specs.Effect.{Database}
 use Rattle.sqlite.specs.State.{State}
 use Rattle.sqlite.proofs.Callers.{one_permutation}
-use Rattle.td_desk.specs.Content.{Content, empty_content}
+use Rattle.td_model.specs.Content.{Content, empty_content}
 use Rattle.td_table_model.specs.Tables.{AreTablesOf}
 use Rattle.td_table_model.proofs.Following.{same_tables}
 use Rattle.td_schema.specs.Tables.{IsEmptyOf}

@@ -11,7 +11,7 @@ use Rattle.sqlite.specs.State.{State}
 use Rattle.sqlite.proofs.Callers.{one_permutation}
 use Rattle.td_model.specs.declared.holder_row.HolderRow.{HolderRow}
 use Rattle.td_model.specs.Account.{Account, HolderRows, holder_key}
-use Rattle.td_desk.specs.Content.{Content, account_in}
+use Rattle.td_model.specs.Content.{Content, account_in}
 use Rattle.td_table_model.specs.Tables.{AreTablesOf, Tables}
 use Rattle.td_table_model.proofs.Looked.{account_is, find_first, first}
 use Rattle.typed_sql.specs.Typed.{AreTyped, IsTypedRow, row_of, typed_rows}

@@ -10,7 +10,7 @@ use Rattle.sqlite_trees.proofs.ListLemmas.{IsPermutation-filter, IsPermutation-s
 use Rattle.sqlite.specs.State.{State}
 use Rattle.td_model.specs.Account.{HolderRows, holder_key}
 use Rattle.td_model.specs.declared.holder_row.HolderRow.{HolderRow}
-use Rattle.td_desk.specs.Content.{Content, IsSound, empty_content}
+use Rattle.td_model.specs.Content.{Content, IsSound, empty_content}
 use Rattle.td_table_model.specs.Gathering.{owner}
 use Rattle.td_table_model.specs.Stored.{AreStored}
 use Rattle.td_table_model.specs.Tables.{AreTablesOf, KeepAmounts, Keyed, Tables, code_rows_of, guarantees_in, kept_in, line_rows_of, movements_in, without_amount}

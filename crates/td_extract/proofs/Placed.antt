@@ -9,7 +9,7 @@ use Rattle.keyed_rows.specs.Rows.{row_at}
 use Rattle.keyed_rows.proofs.Putting.{All-row_at, row_at_has}
 use Rattle.td_model.specs.declared.holder_row.HolderRow.{HolderRow}
 use Rattle.td_model.specs.Account.{Account, HolderRows}
-use Rattle.td_desk.specs.Content.{Content, IsSound}
+use Rattle.td_model.specs.Content.{Content, IsSound}
 use Rattle.td_table_model.specs.Gathering.{IsApart, IsNumbered, guarantees_by, holder_no, in_order, movements_by, owner, part, place}
 use Rattle.td_table_model.specs.Rules.{KeepRules, KeepsRules}
 use Rattle.td_table_model.specs.Stored.{AreOfHolders, AreStored}

@@ -1,7 +1,7 @@
 -- What a content has of the holders of a range.
 use Rattle.std.specs.Prelude.{ℕ, Bool, ◌&&◌, filter, nat_le}
 use Rattle.td_model.specs.Account.{holder_key}
-use Rattle.td_desk.specs.Content.{Content}
+use Rattle.td_model.specs.Content.{Content}
 
 -- the number is from the first on and up to the last
 abbrev pub is_between : ℕ → ℕ → ℕ → Bool

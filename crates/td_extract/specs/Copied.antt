@@ -3,7 +3,7 @@ use Rattle.std.specs.Prelude.{ℕ, ◌+◌, List, [], ◌∷◌, ◌++◌, filte
 use Rattle.sqlite.specs.State.{State}
 use Rattle.td_movement.specs.declared.movement.Movement.{Movement}
 use Rattle.td_model.specs.declared.holder_row.HolderRow.{HolderRow}
-use Rattle.td_desk.specs.Content.{Content}
+use Rattle.td_model.specs.Content.{Content}
 use Rattle.td_table_model.specs.Gathering.{owner}
 use Rattle.td_table_model.specs.Tables.{Keyed, Kept, LineCells, Tables, guarantee_row, movement_row, with_amount, without_amount}
 use Rattle.td_store_rows.specs.Places.{is_within}

@@ -1,7 +1,7 @@
 -- Laws of what a content has of the holders of a range.
 use Rattle.std.specs.Prelude.{◌≡◌, ℕ, if◌then◌else◌}
 use Rattle.td_model.specs.Account.{empty_account}
-use Rattle.td_desk.specs.Content.{Content, IsSound, account_in}
+use Rattle.td_model.specs.Content.{Content, IsSound, account_in}
 use Rattle.td_extract.specs.Between.{content_between, is_between}
 
 -- It keeps of each holder in the range what the whole keeps, and of any other number nothing.

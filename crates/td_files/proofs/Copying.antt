@@ -9,7 +9,7 @@ use Rattle.sqlite.specs.Effect.{Database}
 use Rattle.sqlite.specs.Files.{file_state}
 use Rattle.sqlite.specs.Held.{Held}
 use Rattle.sqlite.specs.State.{State, HasCleanDisk, Survives}
-use Rattle.td_desk.specs.Content.{Content}
+use Rattle.td_model.specs.Content.{Content}
 use Rattle.td_desk.specs.View.{LeavesOnly}
 use Rattle.td_schema.specs.Layouts.{desk_schema}
 use Rattle.td_schema.specs.Tables.{IsEmptyOf, no_schema}

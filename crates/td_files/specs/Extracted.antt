@@ -5,7 +5,7 @@ use Rattle.sqlite_wal.specs.Recovery.{Image}
 use Rattle.sqlite.specs.Effect.{Database}
 use Rattle.sqlite.specs.Files.{file_state}
 use Rattle.sqlite.specs.State.{State, HasCleanDisk}
-use Rattle.td_desk.specs.Content.{Content}
+use Rattle.td_model.specs.Content.{Content}
 use Rattle.td_schema.specs.Layouts.{desk_schema}
 use Rattle.td_schema.specs.Tables.{IsEmptyOf, no_schema}
 use Rattle.td_store_rows.specs.StoreTables.{HoldsContent}

@@ -12,7 +12,7 @@ use Rattle.sqlite.specs.Held.{Held}
 use Rattle.sqlite.specs.Start.{FindsIn}
 use Rattle.sqlite.specs.State.{HasCleanDisk}
 use Rattle.sqlite.specs.declared.file.Leftover.{Leftover}
-use Rattle.td_desk.specs.Content.{Content, empty_content}
+use Rattle.td_model.specs.Content.{Content, empty_content}
 use Rattle.td_desk.specs.View.{DeskView, LeavesOnly}
 use Rattle.td_schema.specs.Layouts.{desk_schema}
 use Rattle.td_schema.specs.Tables.{IsEmptyOf, no_schema}

@@ -7,7 +7,7 @@ use Rattle.std.proofs.lemmas.List.{length-append, length-map, take-append-le}
 use Rattle.std.proofs.lemmas.Slice.Eq.{bytes_eq-Decides}
 use Rattle.td_base.specs.References.{serial_of}
 use Rattle.td_model.specs.Sound.{AllNumbered}
-use Rattle.td_acts.proofs.Joined.{AllNumbered-append}
+use Rattle.td_model.proofs.Joined.{AllNumbered-append}
 use Rattle.td_holder_memory.specs.Places.{HaveSerials, IsOnlyPlace, ArePlaced}
 use Rattle.td_holder_memory.proofs.PlaceOfLrn.{told_apart}
 

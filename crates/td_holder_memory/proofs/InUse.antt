@@ -3,8 +3,8 @@ use Rattle.std.proofs.Common.{◌≡◌, ℕ, ◌+◌, ◌<◌, List, [], ◌∷
 use Rattle.std.proofs.lemmas.List.{get_or-set_same}
 use Rattle.std.proofs.lemmas.List.Sums.{sum_by-take-drop, sum_by-drop_more, sum_by-set}
 use Rattle.td_movement.specs.declared.movement.Movement.{Movement}
-use Rattle.td_acts.specs.declared.rows.NewStatus.{NewStatus}
-use Rattle.td_acts.specs.Changes.{with_status, moved}
+use Rattle.td_model.specs.declared.change.NewStatus.{NewStatus}
+use Rattle.td_model.specs.Changes.{with_status, moved}
 use Rattle.td_guarantee.specs.Usage.{movement_on, used_on}
 use Rattle.td_holder_memory.specs.Kept.{Kept, AreKept}
 use Rattle.td_holder_memory.specs.Places.{IsOnlyPlace}

@@ -6,8 +6,8 @@ use Rattle.std.specs.Option.{option_or}
 use Rattle.std.specs.Str.{bytes_eq}
 use Rattle.td_base.specs.References.{serial_of}
 use Rattle.td_movement.specs.declared.movement.Movement.{Movement}
-use Rattle.td_acts.specs.declared.rows.NewStatus.{NewStatus}
-use Rattle.td_acts.specs.Changes.{with_status, moved}
+use Rattle.td_model.specs.declared.change.NewStatus.{NewStatus}
+use Rattle.td_model.specs.Changes.{with_status, moved}
 use Rattle.td_holder_memory.specs.Places.{AreIndexed, lrn_cmp, place_by_lrn}
 use Rattle.td_holder_memory.proofs.PlaceOfLrn.{place_moved, place_in_more}
 use Rattle.td_holder_memory.proofs.BySerial.{placed_made, placed_more, placed_next}

@@ -17,7 +17,7 @@ use Rattle.td_acts.specs.Deciding.{IsLookedUp, entry_by_grn, terms_alone}
 use Rattle.td_commands.specs.Commands.{lodging, movement, status, release, guarantee}
 use Rattle.td_acts.proofs.Lodging.{named_entry}
 use Rattle.td_holder_memory.proofs.Found.{with_key, found_has, found_alone}
-use Rattle.td_acts.proofs.Joined.{AllByRecursion-weaker}
+use Rattle.td_model.proofs.Joined.{AllByRecursion-weaker}
 
 -- one thing that is found, or not
 more_found : {X Y : Type 0} (seek : X → Option Y) (x : X) (o : Option Y) → seek x ≡ o → filter_map seek (x ∷ []) ≡ option_to_list o

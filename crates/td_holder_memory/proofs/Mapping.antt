@@ -3,9 +3,9 @@ use Rattle.std.proofs.Common.{◌≡◌, ℕ, zero, suc, ◌<◌, ◌≤◌, tru
 use Rattle.std.specs.Str.{bytes_eq}
 use Rattle.td_guarantee.specs.declared.guarantee.Guarantee.{Guarantee}
 use Rattle.td_movement.specs.declared.movement.Movement.{Movement}
-use Rattle.td_acts.specs.declared.rows.NewStatus.{NewStatus}
+use Rattle.td_model.specs.declared.change.NewStatus.{NewStatus}
 use Rattle.td_model.specs.Account.{at_grn}
-use Rattle.td_acts.specs.Changes.{with_status, moved}
+use Rattle.td_model.specs.Changes.{with_status, moved}
 
 module _ {X : Type 0} (f : X → X) where
   -- the first i of them are mapped

@@ -12,10 +12,10 @@ use Rattle.std.proofs.lemmas.Map.Text.{is_eq-slice_cmp}
 use Rattle.std.specs.Str.{bytes_eq}
 use Rattle.std.proofs.lemmas.Slice.Eq.{bytes_eq-Decides}
 use Rattle.td_movement.specs.declared.movement.Movement.{Movement}
-use Rattle.td_acts.specs.declared.rows.NewStatus.{NewStatus}
+use Rattle.td_model.specs.declared.change.NewStatus.{NewStatus}
 use Rattle.td_model.specs.Account.{movement_by_lrn}
-use Rattle.td_acts.specs.Changes.{moved}
-use Rattle.td_acts.proofs.Steps.{lrn_moved}
+use Rattle.td_model.specs.Changes.{moved}
+use Rattle.td_model.proofs.Steps.{lrn_moved}
 use Rattle.td_holder_memory.specs.Places.{place_by_lrn, lrn_cmp}
 
 -- a text that is another one is told apart

@@ -2,7 +2,7 @@
 ghost use Rattle.std.specs.Prelude.{◌≡◌, map, IfOk};
 ghost use Rattle.td_guarantee.specs.Codes.{with_code, without_code};
 ghost use Rattle.td_model.specs.Account.{at_grn};
-ghost use Rattle.td_acts.specs.Changes.{moved, with_terms};
+ghost use Rattle.td_model.specs.Changes.{moved, with_terms};
 
 use std::alloc::{AllocError, Global};
 use td_acts::{NewStatus, NewTerms};

@@ -3,7 +3,7 @@ ghost use Rattle.std.specs.Prelude.{◌≡◌, ◌∷◌, ◌++◌, [], map, opt
 ghost use Rattle.td_base.specs.Money.{IsCents};
 ghost use Rattle.td_guarantee.specs.Usage.{used_on};
 ghost use Rattle.td_model.specs.Account.{movement_by_lrn, movement_by_mrn};
-ghost use Rattle.td_acts.specs.Changes.{moved};
+ghost use Rattle.td_model.specs.Changes.{moved};
 
 use crate::amounts::Amounts;
 use crate::movement_rows::MovementRows;

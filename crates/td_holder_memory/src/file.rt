@@ -2,7 +2,7 @@
 ghost use Rattle.std.specs.Prelude.{◌≡◌, [], Some, IfOk, OnOk, OnErr};
 ghost use Rattle.std.specs.List.{AllByRecursion};
 ghost use Rattle.td_model.specs.Account.{account_with};
-ghost use Rattle.td_acts.specs.Changes.{rows_after};
+ghost use Rattle.td_model.specs.Changes.{rows_after};
 ghost use Rattle.td_acts.specs.Deciding.{IsLoaded};
 ghost use Rattle.td_commands.specs.Commands.{need_said};
 ghost use Rattle.td_model.specs.Sound.{IsCovered};

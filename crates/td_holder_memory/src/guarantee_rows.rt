@@ -1,7 +1,7 @@
 //! A holder's guarantees in memory, and where they are found by their references.
 ghost use Rattle.std.specs.Prelude.{◌≡◌, ◌≢◌, ◌≤◌, ◌∷◌, ◌++◌, [], None, length, take, map, option_map, All, IfSome, OnOk, OnErr};
 ghost use Rattle.td_model.specs.Account.{at_grn, coded, uncoded, guarantee_by_grn};
-ghost use Rattle.td_acts.specs.Changes.{with_terms};
+ghost use Rattle.td_model.specs.Changes.{with_terms};
 ghost use Rattle.td_holder_memory.specs.Places.{HaveSerials, IsOnlyPlace};
 
 use crate::changes::{copies_with_code, put_terms, take_code};

@@ -4,7 +4,7 @@ ghost use Rattle.std.specs.BTreeMap.{get};
 ghost use Rattle.std.specs.Option.{option_or};
 ghost use Rattle.std.specs.Str.{bytes_eq};
 ghost use Rattle.td_model.specs.Account.{movement_by_lrn, movement_by_mrn};
-ghost use Rattle.td_acts.specs.Changes.{moved};
+ghost use Rattle.td_model.specs.Changes.{moved};
 ghost use Rattle.td_holder_memory.specs.Places.{HaveSerials, IsOnlyPlace, lrn_cmp};
 
 use crate::changes::put_status;

@@ -5,7 +5,7 @@ use Rattle.td_commands.specs.declared.command.Command.{Command}
 use Rattle.td_commands.specs.declared.command.Stamped.{Stamped}
 use Rattle.td_desk.specs.declared.fault.Fault.TheVariants as fault
 use Rattle.td_desk.specs.declared.running.Outcome.TheVariants as outcome
-use Rattle.td_desk.specs.Content.{Content}
+use Rattle.td_model.specs.Content.{Content}
 use Rattle.td_desk.specs.Runs.{LeavesAfter}
 use Rattle.td_desk.specs.View.{DeskView}
 use Rattle.td_desk.proofs.Leaving.{adds_more, adds_none}

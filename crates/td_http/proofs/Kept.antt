@@ -10,10 +10,10 @@ use Rattle.td_model.specs.Machine.{machine_book, IsGrown}
 use Rattle.td_model.specs.Table.{said}
 use Rattle.td_desk.specs.declared.running.Outcome.{Outcome}
 use Rattle.td_desk.specs.declared.running.Outcome.TheVariants as outcome
-use Rattle.td_desk.specs.Content.{Content, IsSound}
+use Rattle.td_model.specs.Content.{Content, IsSound}
 use Rattle.td_desk.specs.Runs.{IsRun, IsStep, IsTied, is_holder, LeavesAfter}
 use Rattle.td_desk.specs.View.{DeskView, IsSettled}
-use Rattle.td_desk.specs.Weighing.{owner_account, Carries}
+use Rattle.td_acts.specs.Weighing.{owner_account, Carries}
 use Rattle.td_desk.proofs.Turns.{run_more}
 use Rattle.td_fields.specs.declared.fault.WebFault.{WebFault}
 use Rattle.http_wire.specs.declared.reply.Reply.{Reply}

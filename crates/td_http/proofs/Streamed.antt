@@ -1,7 +1,7 @@
 -- What a stream at a desk tells each holder.
 use Rattle.std.proofs.Common.{◌≡◌, ℕ, ℤ, List, ◌∙◌, ap, subst, refl}
 use Rattle.td_model.specs.Book.{Book}
-use Rattle.td_desk.specs.Content.{Content, IsSound}
+use Rattle.td_model.specs.Content.{Content, IsSound}
 use Rattle.td_desk.specs.View.{DeskView}
 use Rattle.td_desk.specs.Runs.{IsTied}
 use Rattle.td_http.specs.declared.service.Service.{Service}

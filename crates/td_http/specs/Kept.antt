@@ -4,7 +4,7 @@ use Rattle.td_commands.specs.declared.command.Stamped.{Stamped}
 use Rattle.td_commands.specs.Commands.{owner_of}
 use Rattle.td_model.specs.Book.{Book}
 use Rattle.td_model.specs.Machine.{machine_book}
-use Rattle.td_desk.specs.Content.{Content, IsSound}
+use Rattle.td_model.specs.Content.{Content, IsSound}
 use Rattle.td_desk.specs.Runs.{IsTied, is_holder}
 use Rattle.td_desk.specs.View.{DeskView}
 use Rattle.http_wire.specs.ReplyText.{is_made}

@@ -2,7 +2,7 @@
 use Rattle.std.specs.Prelude.{◌⊎◌, ℕ, ℤ, List, [], ◌∷◌, ◌++◌, length, map}
 use Rattle.td_commands.specs.declared.command.Stamped.{Stamped}
 use Rattle.td_model.specs.Book.{Book}
-use Rattle.td_desk.specs.Content.{Content, IsSound}
+use Rattle.td_model.specs.Content.{Content, IsSound}
 use Rattle.td_desk.specs.View.{DeskView}
 use Rattle.http_wire.specs.Stream.{Chain, Exchange}
 use Rattle.td_http.specs.Connections.{Between, Connection, IsServedConnection, KnownConnections, ServedConnections, desk_server}

@@ -3,7 +3,7 @@ use Rattle.std.specs.Prelude.{◌≡◌, ℕ, All, List}
 use Rattle.std.specs.List.{flat_map}
 use Rattle.td_model.specs.Book.{Book}
 use Rattle.td_model.specs.Machine.{machine_book}
-use Rattle.td_desk.specs.Content.{Content, IsSound}
+use Rattle.td_model.specs.Content.{Content, IsSound}
 use Rattle.td_desk.specs.Runs.{IsTied}
 use Rattle.td_desk.specs.View.{DeskView}
 use Rattle.http_wire.specs.Stream.{Exchange}

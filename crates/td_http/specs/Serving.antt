@@ -11,7 +11,7 @@ use Rattle.td_model.specs.Table.{said}
 use Rattle.td_commands.specs.declared.said.Said.{Said}
 use Rattle.td_desk.specs.declared.fault.Fault.{Fault}
 use Rattle.td_desk.specs.declared.running.Outcome.{Outcome}
-use Rattle.td_desk.specs.Content.{Content, IsSound}
+use Rattle.td_model.specs.Content.{Content, IsSound}
 use Rattle.td_desk.specs.View.{DeskView, IsSettled}
 use Rattle.td_desk.specs.Runs.{IsOutcomeOf, IsStep, IsTied, LeavesAfter, is_holder}
 use Rattle.td_fields.specs.declared.fault.WebFault.{WebFault}

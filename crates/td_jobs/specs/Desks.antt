@@ -1,7 +1,7 @@
 -- Desks at which jobs are done, and the clocks of jobs.
 use Rattle.std.specs.Prelude.{◌≡◌, ◌≢◌, ℕ, ℤ, List, Option, None, Some}
 use Rattle.td_model.specs.Book.{Book}
-use Rattle.td_desk.specs.Content.{Content, account_in, empty_content, fresh, IsSound}
+use Rattle.td_model.specs.Content.{Content, account_in, empty_content, fresh, IsSound}
 use Rattle.td_desk.specs.Plain.{plain_content}
 use Rattle.td_desk.specs.View.{DeskView}
 use Rattle.td_desk.specs.declared.fault.Fault.TheVariants.{Store}

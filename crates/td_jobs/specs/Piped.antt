@@ -1,7 +1,7 @@
 -- One stream of requests at a desk.
 use Rattle.std.specs.Prelude.{◌≡◌, ℕ, ℤ, List, Option}
 use Rattle.td_model.specs.Book.{Book}
-use Rattle.td_desk.specs.Content.{Content}
+use Rattle.td_model.specs.Content.{Content}
 use Rattle.td_desk.specs.Runs.{IsTied}
 use Rattle.td_desk.specs.View.{DeskView}
 use Rattle.td_http.specs.Serving.{desk_of, IsHandledBy, IsHeadHandledBy, IsServed}

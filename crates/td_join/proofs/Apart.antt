@@ -10,7 +10,7 @@ use Rattle.keyed_rows.proofs.Putting.{All-row_at, row_at_has}
 use Rattle.td_model.specs.declared.holder_row.HolderRow.{HolderRow}
 use Rattle.td_model.specs.Account.{HolderRows, holder_key}
 use Rattle.td_model.specs.Sound.{AreHolderRows}
-use Rattle.td_desk.specs.Content.{Content, IsSound, rows_of}
+use Rattle.td_model.specs.Content.{Content, IsSound, rows_of}
 use Rattle.td_extract.specs.Between.{content_between, is_between}
 use Rattle.td_extract.specs.Extracted.{HasLeastOf}
 use Rattle.td_join.specs.Joined.{AreApart, IsFirstOfBoth}

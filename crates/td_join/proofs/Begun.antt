@@ -11,7 +11,7 @@ use Rattle.sqlite.proofs.StateLemmas.{survives_then}
 use Rattle.typed_sql.specs.Outside.{Looks}
 use Rattle.typed_sql.specs.Reading.{StaysInside}
 use Rattle.typed_sql.proofs.OnlyRead.{stays_on}
-use Rattle.td_desk.specs.Content.{Content}
+use Rattle.td_model.specs.Content.{Content}
 use Rattle.td_store_rows.specs.StoreTables.{AreTreesOf, HoldsContent}
 use Rattle.td_join.specs.declared.fault.JoinFault.{JoinFault}
 use Rattle.td_join.specs.declared.fault.JoinFault.TheVariants.{NoMemory, Stands, Store}

@@ -9,7 +9,7 @@ use Rattle.sqlite_trees.proofs.ListLemmas.{IsPermutation-flat_map, all-flat_map,
 use Rattle.keyed_rows.specs.Rows.{row_at}
 use Rattle.td_model.specs.declared.holder_row.HolderRow.{HolderRow}
 use Rattle.td_model.specs.Account.{HolderRows, holder_key}
-use Rattle.td_desk.specs.Content.{Content, IsSound}
+use Rattle.td_model.specs.Content.{Content, IsSound}
 use Rattle.td_table_model.specs.Gathering.{owner}
 use Rattle.td_table_model.specs.Tables.{AreTablesOf, KeepAmounts, Keyed, Tables, code_rows_of, guarantees_in, kept_in, line_rows_of, movements_in, without_amount}
 use Rattle.td_table_model.proofs.Orders.{each_found}

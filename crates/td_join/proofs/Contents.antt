@@ -7,7 +7,7 @@ use Rattle.sqlite_trees.proofs.ListLemmas.{all_weaker, filter_all}
 use Rattle.td_base.specs.Codes.{IsHolderNumber}
 use Rattle.td_model.specs.Account.{HolderRows, account_with, holder_key}
 use Rattle.td_model.specs.Sound.{AreHolderRows}
-use Rattle.td_desk.specs.Content.{Content, IsSound, account_in, rows_of}
+use Rattle.td_model.specs.Content.{Content, IsSound, account_in, rows_of}
 use Rattle.td_extract.specs.Between.{content_between, is_between}
 use Rattle.td_join.specs.Laws.{AccountsAreOfEither, PartsJoinToTheWhole, SoundContentsJoin, SplitsJoinBack}
 use Rattle.td_join.proofs.Put.{all_put, found_put, or_those, put_together, rises_put}

@@ -4,7 +4,7 @@ use Rattle.std.proofs.lemmas.Bool.{false≢true}
 use Rattle.std.specs.Prelude.{IsErr, is_ok}
 use Rattle.sqlite.specs.State.{State}
 use Rattle.typed_sql.specs.Reading.{HasOnlyRead}
-use Rattle.td_desk.specs.Content.{Content}
+use Rattle.td_model.specs.Content.{Content}
 use Rattle.td_table_model.specs.Tables.{Tables}
 use Rattle.td_table_model.proofs.Following.{same_tables}
 use Rattle.td_schema.specs.declared.layout.Layout.{Layout}

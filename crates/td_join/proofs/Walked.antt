@@ -6,7 +6,7 @@ use Rattle.std.proofs.lemmas.List.Sorted.{IsPermutation-sym}
 use Rattle.sqlite.specs.State.{State, HasCleanDisk}
 use Rattle.td_model.specs.declared.holder_row.HolderRow.{HolderRow}
 use Rattle.td_model.specs.Account.{Account}
-use Rattle.td_desk.specs.Content.{Content, account_in, rows_of}
+use Rattle.td_model.specs.Content.{Content, account_in, rows_of}
 use Rattle.td_table_model.specs.Tables.{Tables}
 use Rattle.td_table_model.proofs.Looked.{account_is, find_first, first, short_permutation}
 use Rattle.typed_sql.specs.Reading.{IsInside}

@@ -1,6 +1,6 @@
 -- Two contents in one, and the holders who stand in both.
 use Rattle.std.specs.Prelude.{◌≡◌, ◌≤◌, ℕ, Option, Some, None, IsSome}
-use Rattle.td_desk.specs.Content.{Content, rows_of}
+use Rattle.td_model.specs.Content.{Content, rows_of}
 use Rattle.td_split.specs.Union.{put_all}
 
 -- the second content, with the rows of each holder of the first in their place among its own

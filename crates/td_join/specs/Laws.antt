@@ -1,6 +1,6 @@
 -- Laws of two contents in one.
 use Rattle.std.specs.Prelude.{◌≡◌, ◌+◌, ◌≤◌, ℕ, if◌then◌else◌, is_some}
-use Rattle.td_desk.specs.Content.{Content, IsSound, account_in, rows_of}
+use Rattle.td_model.specs.Content.{Content, IsSound, account_in, rows_of}
 use Rattle.td_extract.specs.Between.{content_between}
 use Rattle.td_join.specs.Joined.{AreApart, joined}
 

@@ -5,7 +5,7 @@ use Rattle.sqlite_disk.specs.declared.Disk.{Ghosts}
 use Rattle.td_batch.specs.Runs.{IsRowCausedBy, IsRowDone, at_moment}
 use Rattle.td_batch.proofs.AgainAtDesk.{clean_back, live_back}
 use Rattle.td_commands.specs.declared.command.Command.{Command}
-use Rattle.td_desk.specs.Content.{IsSound}
+use Rattle.td_model.specs.Content.{IsSound}
 use Rattle.td_desk.specs.Runs.{IsStep}
 use Rattle.td_desk.specs.View.{DeskView}
 use Rattle.td_desk.specs.declared.fault.Fault.TheVariants as fault

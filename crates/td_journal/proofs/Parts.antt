@@ -9,10 +9,10 @@ use Rattle.td_model.specs.Account.{Account}
 use Rattle.td_model.specs.Book.{account_of, fresh_book}
 use Rattle.td_model.specs.Machine.{book_after}
 use Rattle.td_model.specs.Table.{said}
-use Rattle.td_desk.specs.Content.{Content, account_in}
+use Rattle.td_model.specs.Content.{Content, account_in}
 use Rattle.td_desk.specs.Runs.{is_holder, part}
-use Rattle.td_desk.specs.Weighing.{Carries, kept_for, owner_account}
-use Rattle.td_desk.proofs.Fresh.{owner_account_is_kept}
+use Rattle.td_acts.specs.Weighing.{Carries, kept_for, owner_account}
+use Rattle.td_acts.proofs.Fresh.{owner_account_is_kept}
 use Rattle.td_journal.specs.Parts.{AreTold, PartTellsTheSame, own_replies, reply_over}
 
 owned : (H : ℕ) (o : Option ℕ) → is_holder H o ≡ true → o ≡ Some H

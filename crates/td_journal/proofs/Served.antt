@@ -4,7 +4,7 @@ use Rattle.std.specs.Prelude.{MatchResult}
 use Rattle.std.specs.declared.io.Error.{Error}
 use Rattle.http_wire.specs.Stream.{Exchange}
 use Rattle.sqlite_disk.specs.declared.Disk.{Ghosts}
-use Rattle.td_desk.specs.Content.{IsSound}
+use Rattle.td_model.specs.Content.{IsSound}
 use Rattle.td_desk.specs.View.{DeskView}
 use Rattle.td_http.specs.Connections.{Between, Connection, IsRefused, IsServedConnection, KnownConnections, ServedConnections, desk_server}
 use Rattle.td_http.specs.Serving.{desk_of}

@@ -6,7 +6,7 @@ use Rattle.http_wire.specs.Stream.{Chain, Exchange, question}
 use Rattle.http_wire.specs.declared.reply.Reply.TheVariants.{NoMemory}
 use Rattle.sqlite_disk.specs.declared.Disk.{Ghosts}
 use Rattle.td_commands.specs.declared.command.Command.{Command}
-use Rattle.td_desk.specs.Content.{IsSound}
+use Rattle.td_model.specs.Content.{IsSound}
 use Rattle.td_desk.specs.View.{DeskView}
 use Rattle.td_fields.specs.declared.fault.WebFault.{WebFault}
 use Rattle.td_http.specs.Serving.{HandledAs, IsCausedBy, IsHandled, command_in, desk_of}

@@ -9,11 +9,11 @@ use Rattle.td_batch.specs.declared.running.BatchRun.{BatchRun}
 use Rattle.td_commands.specs.declared.command.Command.{Command}
 use Rattle.td_commands.specs.declared.command.Stamped.{Stamped}
 use Rattle.td_commands.specs.declared.said.Said as words
-use Rattle.td_desk.specs.Content.{Content, IsSound}
+use Rattle.td_model.specs.Content.{Content, IsSound}
 use Rattle.td_desk.specs.declared.running.Outcome.{Outcome}
 use Rattle.td_desk.specs.declared.running.Outcome.TheVariants.{Failed, Said}
 use Rattle.td_desk.specs.View.{DeskView}
-use Rattle.td_desk.specs.Weighing.{Carries}
+use Rattle.td_acts.specs.Weighing.{Carries}
 use Rattle.td_fields.specs.declared.fault.WebFault.{WebFault}
 use Rattle.td_http.specs.Connections.{Between, KnownConnections, ServesConnections, desk_server}
 use Rattle.td_http.specs.Serving.{IsHandledBy, command_in, desk_of}

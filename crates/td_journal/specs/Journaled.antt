@@ -1,11 +1,11 @@
 -- A desk that keeps a journal, and what its calls do to the journal.
 use Rattle.std.specs.Prelude.{◌≡◌, ◌≢◌, ◌⊎◌, ℕ, ◌+◌, false, List, [], ◌++◌, Option, None, Some, IsTrue, IsSome, length, option_map}
 use Rattle.sqlite_disk.specs.declared.Disk.{Ghosts}
-use Rattle.td_acts.specs.declared.rows.Change.TheVariants.{Nothing}
+use Rattle.td_model.specs.declared.change.Change.TheVariants.{Nothing}
 use Rattle.td_acts.specs.declared.rows.Verdict.{Verdict}
 use Rattle.td_base.specs.Days.{moment_of}
 use Rattle.td_commands.specs.declared.command.Stamped.{Stamped}
-use Rattle.td_desk.specs.Content.{Content, IsSound}
+use Rattle.td_model.specs.Content.{Content, IsSound}
 use Rattle.td_desk.specs.declared.fault.Fault.{Fault}
 use Rattle.td_desk.specs.declared.fault.Fault.TheVariants.{Store}
 use Rattle.td_desk.specs.View.{DeskView, LeavesOnly}

@@ -3,9 +3,9 @@ use Rattle.std.specs.Prelude.{◌≡◌, ℕ, List, [], ◌∷◌, if◌then◌e
 use Rattle.td_answers.specs.Answers.{said_body}
 use Rattle.td_commands.specs.Commands.{owner_of}
 use Rattle.td_commands.specs.declared.command.Stamped.{Stamped}
-use Rattle.td_desk.specs.Content.{Content, account_in}
+use Rattle.td_model.specs.Content.{Content, account_in}
 use Rattle.td_desk.specs.Runs.{is_holder, part}
-use Rattle.td_desk.specs.Weighing.{Carries, owner_account}
+use Rattle.td_acts.specs.Weighing.{Carries, owner_account}
 use Rattle.td_model.specs.Table.{said}
 
 -- the body of the reply that a desk of this content gives to a command

@@ -5,8 +5,8 @@ use Rattle.td_base.specs.Days.{moment_of}
 use Rattle.td_commands.specs.declared.command.Command.{Command}
 use Rattle.td_commands.specs.declared.command.Stamped.{Stamped}
 use Rattle.td_commands.specs.declared.said.Said.{Said}
-use Rattle.td_desk.specs.Content.{Content}
-use Rattle.td_desk.specs.Weighing.{owner_account}
+use Rattle.td_model.specs.Content.{Content}
+use Rattle.td_acts.specs.Weighing.{owner_account}
 use Rattle.td_journal_rows.specs.Rows.{change_row, row_line}
 use Rattle.td_model.specs.Machine.{is_accepted}
 use Rattle.td_model.specs.Table.{said}

@@ -1,8 +1,8 @@
 -- A desk that has followed a journal is ready, where it was before; and goes on with the books that the rows ended with.
 use Rattle.std.proofs.Common.{◌≡◌, ℕ, ℤ, List, Option, Ok, map, sym, subst}
 use Rattle.counted_io.specs.declared.counted.Counted.{Counted}
-use Rattle.td_desk.proofs.Fresh.{account_fresh}
-use Rattle.td_desk.specs.Content.{Content, IsSound}
+use Rattle.td_acts.proofs.Fresh.{account_fresh}
+use Rattle.td_model.specs.Content.{Content, IsSound}
 use Rattle.td_desk.specs.Runs.{IsRun, IsTied, heard}
 use Rattle.td_desk.specs.View.{DeskView}
 use Rattle.td_jobs.specs.Desks.{IsReady, fresh_books}

@@ -2,7 +2,7 @@
 use Rattle.std.proofs.Common.{◌≡◌, ◌∙◌, sym, subst, ℤ, List, ℕ, Option}
 use Rattle.std.specs.Prelude.{map}
 use Rattle.sqlite_disk.specs.declared.Disk.{Ghosts}
-use Rattle.td_desk.specs.Content.{IsSound}
+use Rattle.td_model.specs.Content.{IsSound}
 use Rattle.td_desk.specs.View.{DeskView}
 use Rattle.td_http.specs.Serving.{desk_of}
 use Rattle.td_http.proofs.Streamed.{ending_stays}

@@ -2,7 +2,7 @@
 use Rattle.std.proofs.Common.{sym, subst, List, ℕ, None, Some, Option}
 use Rattle.sqlite_disk.specs.declared.Disk.{Ghosts}
 use Rattle.td_commands.specs.declared.command.Stamped.{Stamped}
-use Rattle.td_desk.specs.Content.{Content, IsSound}
+use Rattle.td_model.specs.Content.{Content, IsSound}
 use Rattle.td_desk.specs.View.{DeskView}
 use Rattle.td_jobs.specs.Desks.{IsReady}
 use Rattle.td_journal.specs.Journaled.{journaled}

@@ -6,7 +6,7 @@ use Rattle.sqlite_disk.specs.declared.Disk.{Ghosts}
 use Rattle.td_batch.specs.Runs.{IsBatchDone, outcomes_of, tried}
 use Rattle.td_batch.specs.declared.running.BatchRun.{BatchRun}
 use Rattle.td_commands.specs.declared.command.Command.{Command}
-use Rattle.td_desk.specs.Content.{IsSound}
+use Rattle.td_model.specs.Content.{IsSound}
 use Rattle.td_desk.specs.View.{DeskView}
 use Rattle.td_jobs.specs.Batched.{HasDoneRows, header_of, result_line}
 use Rattle.td_jobs.specs.Jobs.{DeskAndMachine, JobState}

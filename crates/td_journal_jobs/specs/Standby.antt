@@ -3,7 +3,7 @@ use Rattle.std.specs.Prelude.{◌≡◌, ℕ, ℤ, List, map, Option, Result}
 use Rattle.std.specs.declared.io.Error.{Error}
 use Rattle.counted_io.specs.declared.counted.Counted.{Counted}
 use Rattle.td_commands.specs.declared.said.Said.{Said}
-use Rattle.td_desk.specs.Content.{Content, IsSound}
+use Rattle.td_model.specs.Content.{Content, IsSound}
 use Rattle.td_desk.specs.Runs.{IsRun, IsTied, heard}
 use Rattle.td_desk.specs.View.{DeskView}
 use Rattle.td_desk.specs.declared.running.Outcome.{Outcome}

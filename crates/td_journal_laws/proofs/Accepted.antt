@@ -19,9 +19,9 @@ use Rattle.td_commands.specs.declared.said.Refusal.{Refusal}
 use Rattle.td_commands.specs.declared.said.Refusal.TheVariants.{ClockBack, CodeKnown, CodesFull, LastCode, NoCode, NoGuarantee, SerialsSpent, NoMovement, WrongState}
 use Rattle.td_commands.specs.declared.said.Said.{Said}
 use Rattle.td_commands.specs.declared.said.Said.TheVariants.{Refused}
-use Rattle.td_desk.specs.Content.{Content, IsSound, rows_of}
-use Rattle.td_desk.specs.Weighing.{kept_for, owner_account}
-use Rattle.td_desk.proofs.Fresh.{owner_account_is_kept}
+use Rattle.td_model.specs.Content.{Content, IsSound, rows_of}
+use Rattle.td_acts.specs.Weighing.{kept_for, owner_account}
+use Rattle.td_acts.proofs.Fresh.{owner_account_is_kept}
 use Rattle.td_guarantee.specs.declared.guarantee.Guarantee.{Guarantee}
 use Rattle.td_guarantee.specs.Codes.{most_codes}
 use Rattle.td_guarantee.specs.Usage.{used_on}

@@ -5,9 +5,9 @@ use Rattle.std.proofs.lemmas.List.Elements.{All-nil}
 use Rattle.std.specs.Prelude.{◌==◌}
 use Rattle.sqlite_disk.specs.declared.Disk.{Ghosts}
 use Rattle.td_commands.specs.declared.command.Stamped.{Stamped}
-use Rattle.td_desk.specs.Content.{Content, IsSound}
+use Rattle.td_model.specs.Content.{Content, IsSound}
 use Rattle.td_desk.specs.View.{DeskView, LeavesOnly}
-use Rattle.td_desk.specs.Weighing.{Carries}
+use Rattle.td_acts.specs.Weighing.{Carries}
 use Rattle.td_desk.specs.declared.fault.Fault.{Fault}
 use Rattle.td_journal.specs.Journal.{IsDurable, IsTight, file_of, next_number, text_of}
 use Rattle.td_journal.specs.Journaled.{journaled, waiting, written}

@@ -1,7 +1,7 @@
 -- Rows behind rows, and the last of rows.
 use Rattle.std.proofs.Common.{◌≡◌, ◌⊎◌, ℕ, ◌+◌, List, [], ◌∷◌, ◌++◌, length, inl, inr, refl, sym, ap, subst, ◌∙◌, arith, append_assoc, length-append}
 use Rattle.sqlite_disk.specs.declared.Disk.{Ghosts}
-use Rattle.td_desk.specs.Content.{Content, IsSound}
+use Rattle.td_model.specs.Content.{Content, IsSound}
 use Rattle.td_desk.specs.View.{DeskView}
 use Rattle.td_journal.specs.Journal.{next_number, text_of}
 use Rattle.td_journal_start.specs.Lines.{AreLines}

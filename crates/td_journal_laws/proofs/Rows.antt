@@ -4,14 +4,14 @@ use Rattle.std.proofs.lemmas.Bool.{and_parts, leb-true}
 use Rattle.std.proofs.lemmas.Option.{cond_some}
 use Rattle.std.specs.Prelude.{nat_le, if◌then◌else◌}
 use Rattle.td_acts.specs.Deciding.{change_in, change_of, decision_on}
-use Rattle.td_acts.specs.declared.rows.Change.{Change}
-use Rattle.td_acts.specs.declared.rows.Change.TheVariants as change
+use Rattle.td_model.specs.declared.change.Change.{Change}
+use Rattle.td_model.specs.declared.change.Change.TheVariants as change
 use Rattle.td_base.specs.Days.{moment_of}
 use Rattle.td_commands.specs.declared.command.Command.{Command}
 use Rattle.td_commands.specs.declared.command.Stamped.{Stamped}
-use Rattle.td_desk.specs.Content.{Content, IsSound, content_after}
-use Rattle.td_desk.specs.Weighing.{Carries, owner_account}
-use Rattle.td_desk.proofs.Carrying.{carries}
+use Rattle.td_model.specs.Content.{Content, IsSound, content_after}
+use Rattle.td_acts.specs.Weighing.{Carries, owner_account}
+use Rattle.td_acts.proofs.Carrying.{carries}
 use Rattle.td_journal.specs.Growth.{AreJournaled}
 use Rattle.td_journal.specs.Journaled.{written}
 use Rattle.td_journal.specs.Texts.{IsRowOf, is_change_at}

@@ -1,5 +1,5 @@
 //! A command done at a desk that keeps a journal: what the laws of crashes suppose of its two calls holds of them.
-ghost use Rattle.td_desk.specs.Content.{IsSound};
+ghost use Rattle.td_model.specs.Content.{IsSound};
 ghost use Rattle.td_journal_laws.specs.Crashes.{IsDoneAt};
 
 use sqlite_disk::Disk;

@@ -5,7 +5,7 @@ use Rattle.std.proofs.lemmas.List.Elements.{All-nil}
 use Rattle.std.specs.Prelude.{◌==◌, false}
 use Rattle.sqlite_disk.specs.declared.Disk.{Ghosts}
 use Rattle.td_commands.specs.declared.command.Stamped.{Stamped}
-use Rattle.td_desk.specs.Content.{Content, IsSound}
+use Rattle.td_model.specs.Content.{Content, IsSound}
 use Rattle.td_desk.specs.View.{DeskView}
 use Rattle.td_journal.specs.Journal.{file_of, text_of}
 use Rattle.td_journal.specs.declared.desk.JournaledDesk.{JournaledDesk}

@@ -1,7 +1,7 @@
 -- A start over a journal's rows.
 use Rattle.std.proofs.Common.{◌≡◌, ◌≢◌, ◌⊎◌, ℕ, ◌+◌, List, [], ◌∷◌, ◌++◌, length, Option, None, Some, inl, inr, refl, sym, ap, subst, ◌∙◌, arith, append_assoc, append-nil}
 use Rattle.sqlite_disk.specs.declared.Disk.{Ghosts}
-use Rattle.td_desk.specs.Content.{Content, IsSound}
+use Rattle.td_model.specs.Content.{Content, IsSound}
 use Rattle.td_desk.specs.View.{DeskView}
 use Rattle.td_journal.specs.Journal.{text_of}
 use Rattle.td_journal_rows.specs.Rows.{HasNoLineFeed}

@@ -3,7 +3,7 @@ use Rattle.std.specs.Prelude.{◌≡◌, ◌≢◌, ◌⊎◌, ℕ, false, List,
 use Rattle.sqlite_disk.specs.Disk.{MoreFaults}
 use Rattle.sqlite_disk.specs.declared.Disk.{Ghosts}
 use Rattle.td_commands.specs.Commands.{IsProper}
-use Rattle.td_desk.specs.Content.{IsSound}
+use Rattle.td_model.specs.Content.{IsSound}
 use Rattle.td_desk.specs.View.{AddsAtMost, DeskView, IsSettled}
 use Rattle.td_desk.specs.declared.fault.Fault.{Fault}
 use Rattle.td_desk.specs.declared.fault.Fault.TheVariants as fault

@@ -13,7 +13,7 @@ use Rattle.sqlite.proofs.Callers.{one_permutation}
 use Rattle.sqlite.specs.Effect.{Database}
 use Rattle.sqlite.specs.State.{State}
 use Rattle.td_base.specs.References.{serial_of}
-use Rattle.td_desk.specs.Content.{Content, account_in}
+use Rattle.td_model.specs.Content.{Content, account_in}
 use Rattle.td_guarantee.specs.declared.guarantee.Guarantee.{Guarantee}
 use Rattle.td_model.specs.Account.{guarantee_by_grn}
 use Rattle.td_table_model.specs.Gathering.{with_codes}

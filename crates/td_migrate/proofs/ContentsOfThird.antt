@@ -5,7 +5,7 @@ use Rattle.sqlite_trees.proofs.ListLemmas.{IsPermutation-same}
 use Rattle.sqlite.proofs.Callers.{one_permutation}
 use Rattle.sqlite.specs.Effect.{Database}
 use Rattle.sqlite.specs.State.{State}
-use Rattle.td_desk.specs.Content.{Content}
+use Rattle.td_model.specs.Content.{Content}
 use Rattle.td_table_model.specs.Changes.{HaveSameRows}
 use Rattle.td_table_model.specs.Tables.{AreTablesOf, Tables, version_with_amounts}
 use Rattle.td_table_model.proofs.Following.{same_tables}

@@ -2,7 +2,7 @@
 use Rattle.std.specs.Prelude.{◌≡◌, ℕ, []}
 use Rattle.sqlite_trees.specs.Tree.{Trees}
 use Rattle.sqlite.specs.Effect.{Database}
-use Rattle.td_desk.specs.Content.{Content, IsSound}
+use Rattle.td_model.specs.Content.{Content, IsSound}
 use Rattle.td_table_model.specs.Tables.{AreTablesOf}
 use Rattle.td_schema.specs.Layouts.{grown, guarantees_tree, lines_tree, schema_of, version_of}
 use Rattle.td_schema.specs.declared.layout.Layout.{Layout}

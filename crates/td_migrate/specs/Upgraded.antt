@@ -3,7 +3,7 @@ use Rattle.std.specs.Prelude.{◌≡◌, ◌⊎◌, ◌<◌, ℕ, [], Result, Ok
 use Rattle.sqlite_trees.specs.Tree.{Trees}
 use Rattle.sqlite.specs.Effect.{Database}
 use Rattle.sqlite.specs.State.{State}
-use Rattle.td_desk.specs.Content.{Content}
+use Rattle.td_model.specs.Content.{Content}
 use Rattle.td_table_model.specs.Tables.{first_version, version_with_amounts}
 use Rattle.td_table_model.specs.declared.rule.Rule.{Rule}
 use Rattle.td_schema.specs.Layouts.{grown, guarantees_tree, lines_tree, newest_version, schema_of, version_of}

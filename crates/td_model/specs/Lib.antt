@@ -5,3 +5,5 @@ pub mod Declaring
 pub mod Table
 pub mod Machine
 pub mod Sound
+pub mod Changes
+pub mod Content

@@ -2,9 +2,9 @@
 use Rattle.std.proofs.Common.{◌≡◌, ◌⊎◌, Bool, true, false, refl, ◌∙◌, inl, inr}
 use Rattle.td_commands.specs.declared.command.Stamped.{Stamped}
 use Rattle.td_model.specs.Machine.{is_accepted}
-use Rattle.td_desk.specs.Content.{Content}
+use Rattle.td_model.specs.Content.{Content}
 use Rattle.td_desk.specs.View.{DeskView}
-use Rattle.td_desk.specs.Weighing.{owner_account, Carries}
+use Rattle.td_acts.specs.Weighing.{owner_account, Carries}
 use Rattle.td_redo.specs.Laws.{CrashLeavesEither, StartAfterCrashIsWhole}
 use Rattle.td_redo.proofs.Contents.{carried_alike}
 use Rattle.td_redo.proofs.Journals.{start_is_whole}

@@ -9,9 +9,9 @@ use Rattle.td_commands.specs.declared.said.Answer.TheVariants as answer
 use Rattle.td_commands.specs.declared.said.Said.{Said}
 use Rattle.td_commands.specs.declared.said.Said.TheVariants.{Answered, Refused}
 use Rattle.td_commands.specs.Commands.{IsProper}
-use Rattle.td_acts.specs.declared.rows.Change.{Change}
-use Rattle.td_acts.specs.declared.rows.Change.TheVariants as change
-use Rattle.td_acts.specs.Changes.{account_after}
+use Rattle.td_model.specs.declared.change.Change.{Change}
+use Rattle.td_model.specs.declared.change.Change.TheVariants as change
+use Rattle.td_model.specs.Changes.{account_after}
 use Rattle.td_acts.specs.Deciding.{change_in, change_of}
 use Rattle.td_model.specs.Account.{Account}
 use Rattle.td_model.specs.Machine.{is_accepted_at, is_accepted_in}

@@ -7,10 +7,10 @@ use Rattle.td_commands.specs.Commands.{owner_of, IsProper}
 use Rattle.td_model.specs.Account.{Account, ReferencesDiffer}
 use Rattle.td_model.specs.Table.{said}
 use Rattle.td_acts.proofs.Growing.{account_said_after}
-use Rattle.td_desk.specs.Content.{Content, account_in, fresh, IsSound}
-use Rattle.td_desk.specs.Weighing.{account_for, Carries}
-use Rattle.td_desk.proofs.Differing.{references_differ}
-use Rattle.td_desk.proofs.Fresh.{account_fresh}
+use Rattle.td_model.specs.Content.{Content, account_in, fresh, IsSound}
+use Rattle.td_acts.specs.Weighing.{account_for, Carries}
+use Rattle.td_model.proofs.Kept.{references_differ}
+use Rattle.td_acts.proofs.Fresh.{account_fresh}
 use Rattle.td_redo.specs.Redo.{account_done, said_over, TellsOpenings, IsRedone}
 use Rattle.td_redo.specs.Laws.{TwiceAtADeskIsOnce, RedoneOverItsBeginning, RedoneOverItsEnd}
 use Rattle.td_redo.proofs.Answered.{redo}

@@ -9,12 +9,12 @@ use Rattle.td_movement.specs.declared.line.Line.{Line}
 use Rattle.td_movement.specs.declared.movement.Movement.{Movement}
 use Rattle.td_commands.specs.declared.command.Command.TheVariants.{Ie015}
 use Rattle.td_commands.specs.declared.command.Stamped.{Stamped}
-use Rattle.td_acts.specs.declared.rows.Change.{Change}
-use Rattle.td_acts.specs.declared.rows.Change.TheVariants as change
-use Rattle.td_acts.specs.declared.rows.NewStatus.{NewStatus}
-use Rattle.td_acts.specs.Changes.{account_after, moved}
+use Rattle.td_model.specs.declared.change.Change.{Change}
+use Rattle.td_model.specs.declared.change.Change.TheVariants as change
+use Rattle.td_model.specs.declared.change.NewStatus.{NewStatus}
+use Rattle.td_model.specs.Changes.{account_after, moved}
 use Rattle.td_acts.specs.Deciding.{change_in, change_of}
-use Rattle.td_acts.proofs.Steps.{lrn_moved}
+use Rattle.td_model.proofs.Steps.{lrn_moved}
 use Rattle.td_model.specs.declared.holder_row.HolderRow.{HolderRow}
 use Rattle.td_guarantee.specs.declared.guarantee.Guarantee.{Guarantee}
 use Rattle.td_model.specs.Account.{Account, movement_by_lrn}

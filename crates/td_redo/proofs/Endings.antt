@@ -7,14 +7,14 @@ use Rattle.td_base.specs.Days.{moment_of}
 use Rattle.td_commands.specs.declared.command.Command.{Command}
 use Rattle.td_commands.specs.declared.command.Stamped.{Stamped}
 use Rattle.td_commands.specs.Commands.{IsProper}
-use Rattle.td_acts.specs.declared.rows.Change.{Change}
-use Rattle.td_acts.specs.declared.rows.Change.TheVariants as change
+use Rattle.td_model.specs.declared.change.Change.{Change}
+use Rattle.td_model.specs.declared.change.Change.TheVariants as change
 use Rattle.td_acts.specs.Deciding.{change_in, change_of}
 use Rattle.td_model.specs.Account.{Account}
 use Rattle.td_model.specs.Machine.{is_accepted, is_accepted_at, is_accepted_in}
-use Rattle.td_desk.specs.Content.{Content, content_after, IsSound}
-use Rattle.td_desk.specs.Weighing.{owner_account, Carries}
-use Rattle.td_desk.proofs.Carrying.{carries}
+use Rattle.td_model.specs.Content.{Content, content_after, IsSound}
+use Rattle.td_acts.specs.Weighing.{owner_account, Carries}
+use Rattle.td_acts.proofs.Carrying.{carries}
 use Rattle.td_redo.specs.Endings.{IsRedoneAs, IsSaidAgain}
 use Rattle.td_redo.specs.Laws.{EndsAsRedone, OneEnding, RedoneTwiceIsRedoneOnce, RowIsSaidAgain, RowThatIsDueIsCarried, RowThatStandsIsTold}
 use Rattle.td_redo.specs.Redo.{said_over, IsRedone}

@@ -1,7 +1,7 @@
 -- Rows of accepted changes, one after the other.
 use Rattle.std.proofs.Common.{◌≡◌, ◌≢◌, ◌⊎◌, ℕ, List, [], ◌∷◌, ◌++◌, refl, sym, ◌∙◌, subst, inl, inr}
 use Rattle.td_commands.specs.declared.said.Said.{Said}
-use Rattle.td_desk.specs.Content.{Content, IsSound}
+use Rattle.td_model.specs.Content.{Content, IsSound}
 use Rattle.td_redo.specs.Endings.{IsRedoneAs}
 use Rattle.td_redo.specs.Redo.{Row, IsDone, AreDone}
 use Rattle.td_redo.specs.Replies.{body_text}

@@ -13,7 +13,7 @@ use Rattle.td_commands.specs.declared.said.Answer.TheVariants as answer
 use Rattle.td_commands.specs.declared.said.Refusal.TheVariants.{ClockBack, SerialsSpent}
 use Rattle.td_commands.specs.declared.said.Said.TheVariants.{Answered, Refused}
 use Rattle.td_acts.proofs.Accepted.{opened_facts}
-use Rattle.td_acts.specs.Changes.{account_after}
+use Rattle.td_model.specs.Changes.{account_after}
 use Rattle.td_acts.specs.Deciding.{change_in, change_of}
 use Rattle.td_model.specs.declared.holder_row.HolderRow.{HolderRow}
 use Rattle.td_model.specs.Account.{Account}

@@ -2,15 +2,15 @@
 use Rattle.std.proofs.Common.{◌≡◌, ◌≢◌, ◌⊎◌, ℕ, Bool, true, List, None, Ok, subst, inl, inr}
 use Rattle.td_commands.specs.declared.command.Stamped.{Stamped}
 use Rattle.td_commands.specs.declared.said.Said.{Said}
-use Rattle.td_acts.specs.declared.rows.Change.{Change}
-use Rattle.td_acts.specs.declared.rows.Change.TheVariants as change
+use Rattle.td_model.specs.declared.change.Change.{Change}
+use Rattle.td_model.specs.declared.change.Change.TheVariants as change
 use Rattle.td_acts.specs.declared.rows.Verdict.{Verdict}
-use Rattle.td_acts.specs.Changes.{is_change}
+use Rattle.td_model.specs.Changes.{is_change}
 use Rattle.td_model.specs.Machine.{is_accepted}
-use Rattle.td_desk.specs.Content.{Content, IsSound}
+use Rattle.td_model.specs.Content.{Content, IsSound}
 use Rattle.td_desk.specs.Runs.{LeavesAfter}
 use Rattle.td_desk.specs.View.{AddsAtMost, DeskView}
-use Rattle.td_desk.specs.Weighing.{IsWeighed, owner_account}
+use Rattle.td_acts.specs.Weighing.{IsWeighed, owner_account}
 use Rattle.td_redo.specs.Endings.{IsRedoneAs, IsEndingFor, IsRedoneBy}
 use Rattle.td_redo.specs.Redo.{said_over}
 use Rattle.td_redo.specs.declared.redoing.Redone.{Redone}

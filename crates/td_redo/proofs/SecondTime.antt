@@ -1,10 +1,9 @@
 -- What is said the second time, command by command.
-use Rattle.std.proofs.Common.{◌≡◌, ℕ, Bool, true, false, List, [], ◌∷◌, ◌++◌, map, Option, Some, None, refl, sym, ◌∙◌, ap, ◌+◌}
+use Rattle.std.proofs.Common.{◌≡◌, ℕ, Bool, true, false, List, [], ◌∷◌, ◌++◌, map, Option, Some, None, refl, sym, ◌∙◌, ap, ◌+◌, arith}
 use Rattle.std.specs.Prelude.{◌&&◌, if◌then◌else◌, nat_le, nat_lt, not}
 use Rattle.std.specs.Cmp.Lexicographic.{pointwise}
 use Rattle.std.specs.Str.{bytes_eq}
 use Rattle.std.proofs.lemmas.Bool.Decides.{nat_tests}
-use Rattle.std.proofs.Common.{arith}
 use Rattle.std.proofs.lemmas.List.Folds.{find-append}
 use Rattle.td_base.specs.Days.{day_of_moment, moment_of}
 use Rattle.td_base.specs.References.{mrn_text}
@@ -25,9 +24,9 @@ use Rattle.td_commands.specs.declared.said.Refusal.TheVariants.{ClockBack, NoGua
 use Rattle.td_commands.specs.declared.said.Said.{Said}
 use Rattle.td_commands.specs.declared.said.Said.TheVariants.{Refused}
 use Rattle.td_commands.specs.Lines.{line_of}
-use Rattle.td_acts.specs.declared.rows.NewStatus.{NewStatus}
-use Rattle.td_acts.specs.Changes.{account_after, moved, with_status, with_terms}
-use Rattle.td_acts.specs.Deciding.{change_in, change_of, new_state, no_terms, touched}
+use Rattle.td_model.specs.declared.change.NewStatus.{NewStatus}
+use Rattle.td_model.specs.Changes.{account_after, moved, with_status, with_terms, new_state, no_terms}
+use Rattle.td_acts.specs.Deciding.{change_in, change_of, touched}
 use Rattle.td_acts.proofs.Accepted.{lodged_facts}
 use Rattle.td_model.specs.declared.holder_row.HolderRow.{HolderRow}
 use Rattle.td_model.specs.Account.{Account, at_grn, coded, uncoded, guarantee_by_grn, movement_by_lrn, movement_by_mrn}

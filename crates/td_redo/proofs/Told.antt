@@ -15,9 +15,9 @@ use Rattle.td_model.specs.Account.{Account, empty_account}
 use Rattle.td_model.specs.Effects.{openings}
 use Rattle.td_model.specs.Machine.{is_accepted, is_accepted_in}
 use Rattle.td_model.specs.Table.{said}
-use Rattle.td_desk.specs.Content.{Content, account_in, IsSound}
-use Rattle.td_desk.specs.Weighing.{account_for, owner_account, Carries}
-use Rattle.td_desk.proofs.Fresh.{account_fresh}
+use Rattle.td_model.specs.Content.{Content, account_in, IsSound}
+use Rattle.td_acts.specs.Weighing.{account_for, owner_account, Carries}
+use Rattle.td_acts.proofs.Fresh.{account_fresh}
 use Rattle.td_redo.specs.Endings.{IsOpenedAgain, IsSaidAgain}
 use Rattle.td_redo.specs.Redo.{account_done, said_over}
 use Rattle.td_redo.specs.Replies.{body_text}

@@ -11,9 +11,9 @@ use Rattle.td_movement.specs.declared.state.Control.{Control}
 use Rattle.td_movement.specs.declared.state.Control.TheVariants.{A1, A2, B1}
 use Rattle.td_movement.specs.declared.state.State.TheVariants.{Arrived, Cancelled, Cleared, Enquired, Released, WrittenOff}
 use Rattle.td_model.specs.Machine.{is_accepted}
-use Rattle.td_desk.specs.Content.{Content}
+use Rattle.td_model.specs.Content.{Content}
 use Rattle.td_desk.specs.View.{DeskView}
-use Rattle.td_desk.specs.Weighing.{owner_account, Carries}
+use Rattle.td_acts.specs.Weighing.{owner_account, Carries}
 use Rattle.td_desk.specs.declared.fault.Fault.{Fault}
 use Rattle.td_desk.specs.declared.fault.Fault.TheVariants as fault
 use Rattle.td_redo.specs.Redo.{said_over}

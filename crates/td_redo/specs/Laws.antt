@@ -12,9 +12,9 @@ use Rattle.td_model.specs.Account.{Account}
 use Rattle.td_model.specs.Effects.{openings}
 use Rattle.td_model.specs.Machine.{is_accepted}
 use Rattle.td_model.specs.Table.{said}
-use Rattle.td_desk.specs.Content.{Content, IsSound}
+use Rattle.td_model.specs.Content.{Content, IsSound}
 use Rattle.td_desk.specs.View.{DeskView}
-use Rattle.td_desk.specs.Weighing.{Carries}
+use Rattle.td_acts.specs.Weighing.{Carries}
 use Rattle.td_redo.specs.Crashes.{IsCommandAt}
 use Rattle.td_redo.specs.Endings.{IsRedoneAs, IsSaidAgain}
 use Rattle.td_redo.specs.Redo.{account_done, said_over, opened_by, TellsOpenings, Row, IsDone, AreDone, IsRedone}

@@ -15,8 +15,8 @@ use Rattle.td_model.specs.Machine.{is_accepted}
 use Rattle.td_model.specs.Table.{said}
 use Rattle.td_commands.specs.declared.command.Stamped.{Stamped}
 use Rattle.td_commands.specs.Commands.{owner_of}
-use Rattle.td_desk.specs.Content.{Content, IsSound}
-use Rattle.td_desk.specs.Weighing.{owner_account, Carries}
+use Rattle.td_model.specs.Content.{Content, IsSound}
+use Rattle.td_acts.specs.Weighing.{owner_account, Carries}
 use Rattle.td_redo.specs.Redo.{account_done, said_over}
 
 -- what is said to an opening the second time, where this GRN was said to it: that no serial is left, or another GRN

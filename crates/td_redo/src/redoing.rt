@@ -3,9 +3,9 @@ ghost use Rattle.std.specs.Prelude.{◌≡◌, ◌↔◌, Err, IfOk, IsTrue, OnE
 ghost use Rattle.td_commands.specs.declared.said.Refusal.TheVariants.{WrongState};
 ghost use Rattle.td_commands.specs.declared.said.Said.TheVariants.{Refused};
 ghost use Rattle.td_commands.specs.Commands.{IsProper};
-ghost use Rattle.td_acts.specs.Changes.{is_change};
+ghost use Rattle.td_model.specs.Changes.{is_change};
 ghost use Rattle.td_answers.specs.Answers.{said_body};
-ghost use Rattle.td_desk.specs.Content.{IsSound};
+ghost use Rattle.td_model.specs.Content.{IsSound};
 ghost use Rattle.td_desk.specs.View.{AddsAtMost, IsSettled};
 ghost use Rattle.td_desk.specs.declared.fault.Fault.{Fault};
 ghost use Rattle.td_redo.specs.Endings.{IsRedoneAs, IsEndingFor, IsOpenedAgain, IsRedoneBy, IsSecond};

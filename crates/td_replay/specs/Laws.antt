@@ -1,7 +1,7 @@
 -- Laws of replays.
 use Rattle.std.specs.Prelude.{◌≡◌, ◌≢◌, ℕ, List, ◌∷◌, ◌++◌, Some, None, filter, map}
 use Rattle.td_commands.specs.Commands.{owner_of}
-use Rattle.td_desk.specs.Content.{Content, IsSound, account_in}
+use Rattle.td_model.specs.Content.{Content, IsSound, account_in}
 use Rattle.td_desk.specs.Runs.{is_holder}
 use Rattle.td_desk.specs.View.{DeskView}
 use Rattle.td_journal.specs.Parts.{AreTold}

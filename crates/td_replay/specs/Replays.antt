@@ -5,7 +5,7 @@ use Rattle.csv.specs.Writing.{default_writer, row_text}
 use Rattle.td_answers.specs.Answers.{said_body}
 use Rattle.td_commands.specs.declared.command.Stamped.{Stamped}
 use Rattle.td_commands.specs.declared.said.Said.{Said}
-use Rattle.td_desk.specs.Content.{Content, IsSound}
+use Rattle.td_model.specs.Content.{Content, IsSound}
 use Rattle.td_desk.specs.Runs.{AreOutcomesOf, IsOutcomeOf, IsRun, IsStep, IsTied, LeavesAfter, is_failed}
 use Rattle.td_desk.specs.View.{DeskView, IsSettled}
 use Rattle.td_desk.specs.declared.fault.Fault.{Fault}

@@ -10,7 +10,7 @@ use Rattle.td_commands.specs.Commands.{owner_of}
 use Rattle.td_desk.specs.declared.fault.Fault.{Fault}
 use Rattle.td_desk.specs.declared.running.Outcome.{Outcome}
 use Rattle.td_desk.specs.declared.running.Outcome.TheVariants as outcome
-use Rattle.td_desk.specs.Content.{Content, fresh, IsSound}
+use Rattle.td_model.specs.Content.{Content, fresh, IsSound}
 use Rattle.td_desk.specs.Runs.{is_holder, part, heard, told, failures, IsRun}
 use Rattle.td_desk.specs.View.{DeskView}
 use Rattle.td_batch.specs.declared.running.BatchRun.{BatchRun}

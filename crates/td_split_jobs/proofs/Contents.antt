@@ -7,10 +7,10 @@ use Rattle.td_model.specs.Account.{Account, HolderRows, account_with}
 use Rattle.td_model.specs.Book.{Book, account_of, fresh_book}
 use Rattle.td_model.specs.Machine.{machine_book}
 use Rattle.td_desk.specs.declared.running.Outcome.{Outcome}
-use Rattle.td_desk.specs.Content.{Content, account_in, fresh, rows_of, IsSound}
+use Rattle.td_model.specs.Content.{Content, account_in, fresh, rows_of, IsSound}
 use Rattle.td_desk.specs.Runs.{heard, told, IsRun, IsTied}
 use Rattle.td_desk.proofs.Agreeing.{told_alike}
-use Rattle.td_desk.proofs.Fresh.{account_fresh}
+use Rattle.td_acts.proofs.Fresh.{account_fresh}
 use Rattle.td_split.specs.Laws.{UnionIsOneContent}
 use Rattle.td_split.specs.Union.{union}
 

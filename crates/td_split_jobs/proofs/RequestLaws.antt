@@ -10,7 +10,7 @@ use Rattle.td_model.specs.Book.{Book, account_of}
 use Rattle.td_model.specs.Machine.{machine_book}
 use Rattle.td_model.specs.Table.{said}
 use Rattle.td_desk.specs.declared.fault.Fault.{Fault}
-use Rattle.td_desk.specs.Content.{Content, fresh, rows_of, IsSound}
+use Rattle.td_model.specs.Content.{Content, fresh, rows_of, IsSound}
 use Rattle.td_desk.specs.Runs.{is_holder}
 use Rattle.td_desk.specs.View.{DeskView}
 use Rattle.td_fields.specs.declared.fault.WebFault.{WebFault}

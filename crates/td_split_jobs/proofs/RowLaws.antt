@@ -14,7 +14,7 @@ use Rattle.td_model.specs.Table.{said}
 use Rattle.td_desk.specs.declared.fault.Fault.{Fault}
 use Rattle.td_desk.specs.declared.running.Outcome.{Outcome}
 use Rattle.td_desk.specs.declared.running.Outcome.TheVariants as outcome
-use Rattle.td_desk.specs.Content.{Content, fresh, rows_of, IsSound}
+use Rattle.td_model.specs.Content.{Content, fresh, rows_of, IsSound}
 use Rattle.td_desk.specs.Runs.{failures, heard, is_holder, part, told, IsRun, IsToldOfNobody}
 use Rattle.td_desk.specs.View.{DeskView}
 use Rattle.td_desk.proofs.Agreeing.{heard_alike}

@@ -1,7 +1,7 @@
 -- Laws of requests that are split among desks by holder.
 use Rattle.std.specs.Prelude.{◌≡◌, ℕ, ◌<◌, List, map}
 use Rattle.http_wire.specs.ReplyText.{bytes_of}
-use Rattle.td_desk.specs.Content.{rows_of}
+use Rattle.td_model.specs.Content.{rows_of}
 use Rattle.td_desk.specs.View.{DeskView}
 use Rattle.td_http.specs.ConnectionLaws.{FailAlikeOver, FailTogetherOver, ReplyAlikeOver, ToldAlikeOver}
 use Rattle.td_http.specs.Laws.{fault_told}

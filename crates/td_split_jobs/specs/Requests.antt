@@ -3,7 +3,7 @@ use Rattle.std.specs.Prelude.{◌≡◌, ℕ, ◌+◌, ◌<◌, ◌==◌, ℤ, B
 use Rattle.std.specs.List.{AllByRecursion, flat_map}
 use Rattle.td_commands.specs.declared.command.Command.{Command}
 use Rattle.td_commands.specs.Commands.{owner_of}
-use Rattle.td_desk.specs.Content.{IsSound, rows_of}
+use Rattle.td_model.specs.Content.{IsSound, rows_of}
 use Rattle.td_desk.specs.View.{DeskView}
 use Rattle.td_fields.specs.declared.fault.WebFault.{WebFault}
 use Rattle.http_wire.specs.declared.reply.Reply.{Reply}

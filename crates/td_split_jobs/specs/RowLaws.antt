@@ -1,7 +1,7 @@
 -- Laws of rows that are split among desks by holder.
 use Rattle.std.specs.Prelude.{◌≡◌, ℕ, ◌<◌, ◌≤◌, List, ◌++◌, length, take, None}
 use Rattle.std.specs.List.{concat}
-use Rattle.td_desk.specs.Content.{rows_of}
+use Rattle.td_model.specs.Content.{rows_of}
 use Rattle.td_desk.specs.View.{DeskView}
 use Rattle.td_split.specs.Split.{Shards}
 use Rattle.td_split.specs.Union.{union}

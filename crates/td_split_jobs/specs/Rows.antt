@@ -4,7 +4,7 @@ use Rattle.std.specs.List.{AllByRecursion}
 use Rattle.td_commands.specs.declared.command.Command.{Command}
 use Rattle.td_commands.specs.declared.said.Said.{Said}
 use Rattle.td_commands.specs.Commands.{owner_of}
-use Rattle.td_desk.specs.Content.{IsSound, rows_of}
+use Rattle.td_model.specs.Content.{IsSound, rows_of}
 use Rattle.td_desk.specs.Runs.{is_holder, failures}
 use Rattle.td_desk.specs.View.{DeskView}
 use Rattle.td_batch.specs.declared.running.BatchRun.{BatchRun}

@@ -1,7 +1,7 @@
 //! Batches at a desk, as the laws of split rows speak of them.
 ghost use Rattle.std.specs.Prelude.{◌≢◌, List, []};
 ghost use Rattle.td_commands.specs.declared.said.Said.{Said};
-ghost use Rattle.td_desk.specs.Content.{IsSound};
+ghost use Rattle.td_model.specs.Content.{IsSound};
 ghost use Rattle.td_batch.specs.Results.{act_result, acts_header, declaration_result, declarations_header};
 ghost use Rattle.td_split_jobs.specs.Rows.{IsBatchAt};
 

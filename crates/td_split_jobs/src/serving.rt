@@ -1,6 +1,6 @@
 //! Connections served at a desk, as the laws of split requests speak of them.
 ghost use Rattle.std.specs.Prelude.{map};
-ghost use Rattle.td_desk.specs.Content.{IsSound};
+ghost use Rattle.td_model.specs.Content.{IsSound};
 ghost use Rattle.td_http.specs.Connections.{ServesConnections, connections_by, desk_server};
 ghost use Rattle.td_http.specs.Serving.{desk_of};
 ghost use Rattle.td_split_jobs.specs.Requests.{IsServingAt};

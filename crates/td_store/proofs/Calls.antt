@@ -6,15 +6,14 @@ use Rattle.sqlite_trees.specs.Tree.{Trees}
 use Rattle.sqlite.specs.Held.{Held, state}
 use Rattle.sqlite.specs.State.{State, HasCleanDisk, Survives}
 use Rattle.sqlite.proofs.StateLemmas.{survives_then}
-use Rattle.td_acts.specs.declared.rows.Change.{Change}
+use Rattle.td_model.specs.declared.change.Change.{Change}
 use Rattle.td_acts.specs.declared.rows.Verdict.{Verdict}
-use Rattle.td_desk.specs.Content.{content_after, IsSound}
+use Rattle.td_model.specs.Content.{content_after, IsSound}
 use Rattle.td_desk.specs.View.{AddsAtMost}
-use Rattle.td_desk.specs.Weighing.{IsDecision}
-use Rattle.td_store.specs.Kept.{content_in}
+use Rattle.td_acts.specs.Weighing.{IsDecision}
+use Rattle.td_store.specs.Kept.{content_in, IsDeskOf, sql_view}
 use Rattle.td_store_write.specs.Carried.{CarriesChange, MayLeave}
 use Rattle.typed_sql.specs.Outside.{Looks}
-use Rattle.td_store.specs.Kept.{IsDeskOf, sql_view}
 use Rattle.td_store.proofs.Holding.{decided_there, desk_after, desk_still, there_is, written}
 use Rattle.td_store.proofs.Leaving.{adds}
 

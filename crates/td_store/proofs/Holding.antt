@@ -1,8 +1,7 @@
 -- What a connection that holds a content shows of it.
 use Rattle.std.proofs.Common.{◌≡◌, ◌∙◌, ℕ, Bool, true, false, List, Option, [], ◌∷◌, ap, ap₂, refl, subst, sym}
-use Rattle.std.specs.Prelude.{IsTrue}
+use Rattle.std.specs.Prelude.{IsTrue, ◌||◌, codes, filter}
 use Rattle.std.specs.List.{AllZip, list_any}
-use Rattle.std.specs.Prelude.{◌||◌, codes, filter}
 use Rattle.std.specs.Str.{bytes_eq}
 use Rattle.sqlite_catalog.specs.Listing.{IsTableRow, is_table_row}
 use Rattle.sqlite_schema.specs.declared.schema.Table.{Table}
@@ -11,10 +10,10 @@ use Rattle.typed_sql.specs.Values.{text_in}
 use Rattle.sqlite_trees.specs.Objects.{catalog_tree}
 use Rattle.sqlite_trees.specs.Tree.{Trees}
 use Rattle.sqlite.specs.State.{State, HasCleanDisk}
-use Rattle.td_acts.specs.declared.rows.Change.{Change}
+use Rattle.td_model.specs.declared.change.Change.{Change}
 use Rattle.td_acts.specs.declared.rows.Verdict.{Verdict}
-use Rattle.td_desk.specs.Content.{Content, content_after, IsSound}
-use Rattle.td_desk.specs.Weighing.{IsDecision, kept_for}
+use Rattle.td_model.specs.Content.{Content, content_after, IsSound}
+use Rattle.td_acts.specs.Weighing.{IsDecision, kept_for}
 use Rattle.td_acts.specs.Deciding.{IsLoaded}
 use Rattle.td_acts.specs.declared.rows.Loaded.{Loaded}
 use Rattle.td_commands.specs.Commands.{Need}

@@ -11,7 +11,7 @@ use Rattle.keyed_rows.specs.Rows.{Rises}
 use Rattle.td_guarantee.specs.declared.guarantee.Guarantee.{Guarantee}
 use Rattle.td_guarantee.specs.Usage.{used_on}
 use Rattle.td_movement.specs.declared.movement.Movement.{Movement}
-use Rattle.td_desk.specs.Content.{Content, IsSound}
+use Rattle.td_model.specs.Content.{Content, IsSound}
 use Rattle.td_model.specs.Account.{HolderRows, holder_key}
 use Rattle.td_model.specs.Sound.{AreHolderRows}
 use Rattle.td_table_model.proofs.Orders.{in_order_same, rises-map, rises_apart, rises_lower, sorted_is_order}

@@ -7,7 +7,7 @@ use Rattle.sqlite.specs.Effect.{Database}
 use Rattle.sqlite.specs.Held.{Held, state}
 use Rattle.sqlite.specs.State.{State, HasCleanDisk}
 use Rattle.sqlite.specs.declared.error.Error.{Error}
-use Rattle.td_desk.specs.Content.{Content, IsSound}
+use Rattle.td_model.specs.Content.{Content, IsSound}
 use Rattle.td_desk.specs.declared.fault.Fault.{Fault}
 use Rattle.td_table_model.specs.Tables.{Keyed}
 use Rattle.td_store_load.specs.Placed.{ComesNext, IsFirstBehind}

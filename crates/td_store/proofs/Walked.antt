@@ -1,7 +1,7 @@
 -- What calls of `next` give one after another.
 use Rattle.std.proofs.Common.{◌≡◌, ◌∙◌, ℕ, List, [], ◌∷◌, ◌++◌, Err, None, Ok, Option, Result, Some, ap, refl, subst, sym}
 use Rattle.std.specs.List.{FoldsTo}
-use Rattle.td_desk.specs.Content.{Content}
+use Rattle.td_model.specs.Content.{Content}
 use Rattle.td_desk.specs.View.{DeskView}
 use Rattle.td_desk.specs.declared.fault.Fault.{Fault}
 use Rattle.td_table_model.specs.Tables.{Keyed}

@@ -5,7 +5,7 @@ use Rattle.sqlite_trees.specs.declared.store.Store.{Ghosts}
 use Rattle.sqlite_trees.specs.Tree.{Trees}
 use Rattle.sqlite.specs.Held.{Held, state}
 use Rattle.sqlite.specs.State.{IsLive}
-use Rattle.td_desk.specs.Content.{Content}
+use Rattle.td_model.specs.Content.{Content}
 use Rattle.td_desk.specs.View.{AddsAtMost, DeskView, LeavesOnly}
 use Rattle.td_desk.specs.declared.fault.Fault.{Fault}
 use Rattle.td_table_model.specs.Tables.{Keyed}

@@ -3,7 +3,7 @@ ghost use Rattle.std.specs.Prelude.{◌≡◌, ◌⊎◌, false, None, IsTrue, I
 ghost use Rattle.sqlite.specs.Held.{state};
 ghost use Rattle.sqlite.specs.State.{HasCleanDisk};
 ghost use Rattle.typed_sql.specs.Outside.{CrashLeavesShown, Looks};
-ghost use Rattle.td_desk.specs.Content.{Content};
+ghost use Rattle.td_model.specs.Content.{Content};
 ghost use Rattle.td_store.specs.declared.refused.OpenFault.TheVariants as fault;
 ghost use Rattle.td_store.specs.Opened.{HoldsAtVersion, IsDamage, TellsAudit, fault_in};
 

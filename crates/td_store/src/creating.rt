@@ -2,7 +2,7 @@
 ghost use Rattle.std.specs.Prelude.{◌≡◌, ◌⊎◌, ◌↔◌, false, IsTrue, IfOk, IfErr, MatchResult};
 ghost use Rattle.sqlite.specs.Held.{state};
 ghost use Rattle.sqlite.specs.State.{HasCleanDisk, Survives};
-ghost use Rattle.td_desk.specs.Content.{empty_content};
+ghost use Rattle.td_model.specs.Content.{empty_content};
 ghost use Rattle.td_desk.specs.View.{IsSettled};
 ghost use Rattle.td_schema.specs.Layouts.{desk_schema};
 ghost use Rattle.td_schema.specs.Tables.{IsEmptyOf, no_schema};

@@ -1,7 +1,7 @@
 -- What the rules say of tables as they stand in a file.
 use Rattle.std.specs.Prelude.{◌≤◌, length}
 use Rattle.sqlite_trees.specs.Tree.{Trees}
-use Rattle.td_desk.specs.Content.{Content, IsSound}
+use Rattle.td_model.specs.Content.{Content, IsSound}
 use Rattle.td_table_model.specs.declared.rule.Rule.{Rule}
 use Rattle.td_table_model.specs.Tables.{AreTablesOf}
 use Rattle.typed_sql.specs.Typed.{IsTypedRow}

@@ -12,7 +12,7 @@ use Rattle.td_guarantee.specs.declared.guarantee.Guarantee.{Guarantee}
 use Rattle.td_movement.specs.declared.movement.Movement.{Movement}
 use Rattle.td_model.specs.Account.{HolderRows, holder_key}
 use Rattle.td_model.specs.Sound.{AreHolderRows}
-use Rattle.td_desk.specs.Content.{Content, IsSound}
+use Rattle.td_model.specs.Content.{Content, IsSound}
 use Rattle.td_table_model.specs.Tables.{AreTablesOf, Keyed, Kept, Tables, guarantee_row, guarantees_in, kept_in, movement_row, movements_in, numbered, with_use}
 use Rattle.td_table_model.specs.Gathering.{owner, place, with_codes, with_lines}
 use Rattle.td_table_model.proofs.Gathered.{HasParts, guarantees_are, guarantees_back, have_parts, movements_are, movements_back}

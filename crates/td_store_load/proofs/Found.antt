@@ -6,15 +6,14 @@ use Rattle.std.specs.List.{AllByRecursion}
 use Rattle.std.specs.Option.{option_map}
 use Rattle.std.specs.Str.{bytes_eq}
 use Rattle.std.proofs.lemmas.List.{take_more, take-map, get_or-map, length-map, map-append}
-use Rattle.sqlite_trees.proofs.ListLemmas.{map-map}
+use Rattle.sqlite_trees.proofs.ListLemmas.{map-map, all_weaker, filter_same}
 use Rattle.sqlite.specs.State.{State}
-use Rattle.sqlite_trees.proofs.ListLemmas.{all_weaker, filter_same}
 use Rattle.td_guarantee.specs.Codes.{AreAscending, with_code}
 use Rattle.td_guarantee.specs.declared.guarantee.Guarantee.{Guarantee}
 use Rattle.td_movement.specs.declared.line.Line.{Line}
 use Rattle.td_movement.specs.declared.movement.Movement.{Movement}
 use Rattle.td_model.specs.Account.{guarantee_by_grn, movement_by_lrn, movement_by_mrn}
-use Rattle.td_desk.specs.Content.{Content, account_in}
+use Rattle.td_model.specs.Content.{Content, account_in}
 use Rattle.td_table_model.specs.Tables.{Keyed, Kept, Tables, guarantee_no, without_amount}
 use Rattle.td_table_model.specs.Gathering.{codes_by, line_from, lines_by, with_codes, with_lines}
 use Rattle.td_table_model.specs.Looking.{movement_no}

@@ -17,7 +17,7 @@ use Rattle.td_guarantee.specs.declared.guarantee.Guarantee.{Guarantee}
 use Rattle.td_model.specs.Account.{Account, HolderRows, account_with, holder_key}
 use Rattle.td_model.specs.Sound.{AreHolderRows}
 use Rattle.td_model.specs.declared.holder_row.HolderRow.{HolderRow}
-use Rattle.td_desk.specs.Content.{Content, IsSound, account_in, rows_of}
+use Rattle.td_model.specs.Content.{Content, IsSound, account_in, rows_of}
 use Rattle.td_table_model.specs.Gathering.{IsApart, IsNumbered, holder_no, movements_by, owner, part, place, with_lines}
 use Rattle.td_table_model.specs.Looking.{account_by}
 use Rattle.td_table_model.specs.Rules.{KeepRules, KeepsRules}

@@ -10,7 +10,7 @@ use Rattle.td_guarantee.specs.declared.guarantee.Guarantee.{Guarantee}
 use Rattle.td_guarantee.specs.Usage.{used_on}
 use Rattle.td_movement.specs.declared.movement.Movement.{Movement}
 use Rattle.td_model.specs.Account.{HolderRows, holder_key}
-use Rattle.td_desk.specs.Content.{Content, IsSound}
+use Rattle.td_model.specs.Content.{Content, IsSound}
 use Rattle.td_table_model.specs.Gathering.{owner, place}
 use Rattle.td_table_model.specs.Listed.{guarantees_listed, movements_listed}
 use Rattle.td_table_model.specs.Tables.{Keyed, numbered}

@@ -9,7 +9,7 @@ use Rattle.td_model.specs.declared.holder_row.HolderRow.{HolderRow}
 use Rattle.td_acts.specs.declared.rows.Loaded.{Loaded}
 use Rattle.td_model.specs.Account.{Account, HolderRows, account_with, empty_account}
 use Rattle.td_acts.specs.Deciding.{IsLoaded}
-use Rattle.td_desk.specs.Content.{Content, account_in, rows_of}
+use Rattle.td_model.specs.Content.{Content, account_in, rows_of}
 use Rattle.td_table_model.specs.Tables.{Tables}
 use Rattle.td_table_model.specs.Gathering.{holder_no}
 use Rattle.td_table_model.proofs.Looked.{account_is}

@@ -18,7 +18,7 @@ use Rattle.td_guarantee.specs.Terms.{without_codes}
 use Rattle.td_guarantee.specs.Usage.{used_on}
 use Rattle.td_movement.specs.declared.line.Line.{Line}
 use Rattle.td_model.specs.Account.{Account, guarantee_by_grn}
-use Rattle.td_desk.specs.Content.{Content, account_in}
+use Rattle.td_model.specs.Content.{Content, account_in}
 use Rattle.td_holder_memory.proofs.Loading.{one_more}
 use Rattle.td_table_model.specs.Gathering.{IsApart, grn_by, line_from, lines_by, no_of, of_key, owner, part, place, with_codes, with_lines}
 use Rattle.td_table_model.specs.Laws.{IsAmountOf}

@@ -2,7 +2,7 @@
 use Rattle.std.proofs.Common.{◌≡◌, ℕ, List, subst}
 use Rattle.sqlite.specs.Effect.{Database}
 use Rattle.sqlite.specs.State.{State}
-use Rattle.td_desk.specs.Content.{Content}
+use Rattle.td_model.specs.Content.{Content}
 use Rattle.td_table_model.specs.Tables.{Tables}
 use Rattle.td_store_rows.specs.StoreReads.{OnlyReadNewest}
 use Rattle.td_store_load.specs.Loaded.{IsOfContent, IsOfTables}

@@ -9,7 +9,7 @@ use Rattle.td_guarantee.specs.declared.guarantee.Guarantee.{Guarantee}
 use Rattle.td_guarantee.specs.Usage.{used_on}
 use Rattle.td_movement.specs.declared.line.Line.{Line}
 use Rattle.td_model.specs.Account.{Account, entry_in, guarantee_by_grn}
-use Rattle.td_desk.specs.Content.{Content, account_in}
+use Rattle.td_model.specs.Content.{Content, account_in}
 use Rattle.td_table_model.specs.Tables.{Tables, guarantee_no, without_amount}
 use Rattle.td_table_model.specs.Gathering.{with_codes}
 use Rattle.td_table_model.specs.Laws.{IsAmountOf}

@@ -1,7 +1,7 @@
 -- What is read out of the tables of a store's file.
 use Rattle.std.specs.Prelude.{◌≡◌, ℕ, List}
 use Rattle.sqlite.specs.State.{State}
-use Rattle.td_desk.specs.Content.{Content}
+use Rattle.td_model.specs.Content.{Content}
 use Rattle.td_movement.specs.declared.line.Line.{Line}
 use Rattle.td_table_model.specs.Gathering.{grn_by}
 use Rattle.td_table_model.specs.Tables.{Keyed, LineCells, Tables}

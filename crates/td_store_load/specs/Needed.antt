@@ -12,7 +12,7 @@ use Rattle.td_model.specs.declared.holder_row.HolderRow.{HolderRow}
 use Rattle.td_acts.specs.declared.rows.Loaded.{Loaded}
 use Rattle.td_model.specs.Account.{Account, guarantee_by_grn}
 use Rattle.td_acts.specs.Deciding.{IsLoaded}
-use Rattle.td_desk.specs.Content.{Content, account_in}
+use Rattle.td_model.specs.Content.{Content, account_in}
 use Rattle.td_table_model.specs.Tables.{Keyed, Kept, Tables, without_amount}
 use Rattle.td_table_model.specs.Gathering.{grn_by, in_order, part, place, with_codes}
 use Rattle.td_store_rows.specs.StoreTables.{HoldsContent, tables_in}

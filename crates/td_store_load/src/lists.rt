@@ -5,7 +5,7 @@ ghost use Rattle.std.specs.Prelude.{◌≡◌, ◌++◌, Some, map, IfOk, OnOk, 
 ghost use Rattle.sqlite.specs.Held.{state};
 ghost use Rattle.sqlite.specs.State.{HasCleanDisk};
 ghost use Rattle.td_model.specs.Table.{listed};
-ghost use Rattle.td_desk.specs.Content.{Content, account_in};
+ghost use Rattle.td_model.specs.Content.{Content, account_in};
 ghost use Rattle.td_table_model.specs.Gathering.{movements_by};
 ghost use Rattle.typed_sql.specs.Reading.{IsInside};
 ghost use Rattle.td_store_rows.specs.KeptTable.{kept_row_of};

@@ -6,7 +6,7 @@ ghost use Rattle.td_movement.specs.Movements.{without_lines};
 ghost use Rattle.sqlite.specs.Held.{state};
 ghost use Rattle.sqlite.specs.State.{HasCleanDisk};
 ghost use Rattle.td_model.specs.Account.{movement_by_lrn, movement_by_mrn};
-ghost use Rattle.td_desk.specs.Content.{Content, account_in};
+ghost use Rattle.td_model.specs.Content.{Content, account_in};
 ghost use Rattle.td_table_model.specs.Gathering.{line_from, with_lines};
 ghost use Rattle.typed_sql.specs.Reading.{IsInside};
 ghost use Rattle.td_store_rows.specs.StoreReads.{ReadsNewest};

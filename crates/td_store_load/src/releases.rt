@@ -7,7 +7,7 @@ ghost use Rattle.sqlite.specs.Held.{state};
 ghost use Rattle.sqlite.specs.State.{HasCleanDisk};
 ghost use Rattle.td_guarantee.specs.Terms.{without_codes};
 ghost use Rattle.td_model.specs.Account.{movement_by_mrn};
-ghost use Rattle.td_desk.specs.Content.{Content, account_in};
+ghost use Rattle.td_model.specs.Content.{Content, account_in};
 ghost use Rattle.td_table_model.specs.Gathering.{with_lines};
 ghost use Rattle.typed_sql.specs.Reading.{IsInside};
 ghost use Rattle.td_store_rows.specs.LineTable.{line_row_of as row_of_line};

@@ -3,7 +3,7 @@ use Rattle.std.proofs.Common.{◌≡◌, ◌∙◌, ap}
 use Rattle.std.specs.Prelude.{IsTrue}
 use Rattle.sqlite.specs.Effect.{Database}
 use Rattle.sqlite.specs.State.{State}
-use Rattle.td_desk.specs.Content.{Content}
+use Rattle.td_model.specs.Content.{Content}
 use Rattle.td_store_rows.specs.StoreTables.{AreTreesOf, HoldsContent}
 
 abbrev pub trees_still : (c : Content) (a b : Database) → b ≡ a → AreTreesOf c a.trees → AreTreesOf c b.trees

@@ -15,7 +15,7 @@ use Rattle.sqlite_typed.proofs.TestLemmas.{difference_fits, last_term, sum_fits,
 use Rattle.sqlite_value.specs.Order.{Row, column}
 use Rattle.sqlite_value.specs.declared.keys.Collation.TheVariants.{Binary}
 use Rattle.sqlite_value.specs.declared.value.Value.TheVariants.{Int, Text}
-use Rattle.td_acts.specs.declared.rows.NewTerms.{NewTerms}
+use Rattle.td_model.specs.declared.change.NewTerms.{NewTerms}
 use Rattle.td_schema.specs.Tables.{guarantees2}
 use Rattle.td_schema.specs.Layouts.{schema_of}
 use Rattle.td_schema.specs.declared.layout.Layout.{Layout}

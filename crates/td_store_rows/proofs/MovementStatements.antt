@@ -24,7 +24,7 @@ use Rattle.sqlite_value.specs.Order.{Row, column}
 use Rattle.sqlite_value.specs.declared.keys.Collation.TheVariants.{Binary}
 use Rattle.sqlite_value.specs.declared.value.Value.TheVariants.{Text}
 use Rattle.std.specs.Str.{bytes_eq}
-use Rattle.td_acts.specs.declared.rows.NewStatus.{NewStatus}
+use Rattle.td_model.specs.declared.change.NewStatus.{NewStatus}
 use Rattle.td_movement.specs.States.{state_name}
 use Rattle.td_movement.specs.declared.movement.Movement.{Movement}
 use Rattle.td_store_rows.specs.Columns.{movement_cells, movement_columns, movement_typing, movements_table}

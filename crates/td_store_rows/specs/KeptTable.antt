@@ -3,8 +3,8 @@ use Rattle.std.specs.Prelude.{◌≡◌, ◌≤◌, ◌<◌, ◌^◌, [], ◌∷
 use Rattle.std.specs.List.{AllByRecursion}
 use Rattle.std.specs.Option.{option_map, option_to_list}
 use Rattle.td_guarantee.specs.declared.guarantee.Guarantee.{Guarantee}
-use Rattle.td_acts.specs.Changes.{with_terms}
-use Rattle.td_acts.specs.declared.rows.NewTerms.{NewTerms}
+use Rattle.td_model.specs.Changes.{with_terms}
+use Rattle.td_model.specs.declared.change.NewTerms.{NewTerms}
 use Rattle.td_table_model.specs.Gathering.{IsApart, in_order, place}
 use Rattle.td_table_model.specs.Tables.{Keyed, Kept, with_amount, without_amount}
 use Rattle.td_schema.specs.Layouts.{schema_of}

@@ -8,8 +8,8 @@ use Rattle.td_movement.specs.States.{is_counting, state_name}
 use Rattle.td_movement.specs.declared.movement.Movement.{Movement}
 use Rattle.td_commands.specs.declared.lists.ListedMovement.{ListedMovement}
 use Rattle.td_model.specs.Table.{listed}
-use Rattle.td_acts.specs.Changes.{with_status}
-use Rattle.td_acts.specs.declared.rows.NewStatus.{NewStatus}
+use Rattle.td_model.specs.Changes.{with_status}
+use Rattle.td_model.specs.declared.change.NewStatus.{NewStatus}
 use Rattle.td_table_model.specs.Tables.{Keyed}
 use Rattle.td_schema.specs.Layouts.{schema_of}
 use Rattle.td_schema.specs.declared.layout.Layout.{Layout}

@@ -5,12 +5,12 @@ use Rattle.sqlite_trees.specs.Tree.{Trees}
 use Rattle.sqlite.specs.Effect.{Database}
 use Rattle.sqlite.specs.State.{State}
 use Rattle.td_model.specs.declared.holder_row.HolderRow.{HolderRow}
-use Rattle.td_acts.specs.declared.rows.Change.{Change}
-use Rattle.td_acts.specs.Changes.{row_in}
-use Rattle.td_desk.specs.Content.{Content, content_after, content_after_row, IsSound}
+use Rattle.td_model.specs.declared.change.Change.{Change}
+use Rattle.td_model.specs.Changes.{row_in}
+use Rattle.td_model.specs.Content.{Content, content_after, content_after_row, IsSound}
 use Rattle.td_table_model.specs.Tables.{AreTablesOf}
 use Rattle.td_table_model.specs.Changes.{HaveSameRows, tables_after}
-use Rattle.td_table_model.proofs.Decided.{decisions_are_written}
+use Rattle.td_store_write.proofs.Decided.{decisions_are_written}
 use Rattle.td_table_model.proofs.Told.{references_tell}
 use Rattle.td_schema.specs.Layouts.{newest_version}
 use Rattle.td_schema.specs.declared.layout.Layout.{Layout}

@@ -7,11 +7,11 @@ use Rattle.sqlite_trees.proofs.ListLemmas.{all_weaker}
 use Rattle.sqlite.specs.State.{State}
 use Rattle.td_guarantee.specs.declared.guarantee.Guarantee.{Guarantee}
 use Rattle.td_movement.specs.declared.movement.Movement.{Movement}
-use Rattle.td_acts.specs.declared.rows.Change.TheVariants.{Registered, Declared, Moved, TermsSet, CodeAdded, CodeRemoved}
+use Rattle.td_model.specs.declared.change.Change.TheVariants.{Registered, Declared, Moved, TermsSet, CodeAdded, CodeRemoved}
 use Rattle.td_model.specs.declared.holder_row.HolderRow.{HolderRow}
-use Rattle.td_acts.specs.declared.rows.NewStatus.{NewStatus}
-use Rattle.td_acts.specs.declared.rows.NewTerms.{NewTerms}
-use Rattle.td_acts.specs.Changes.{with_status, with_terms}
+use Rattle.td_model.specs.declared.change.NewStatus.{NewStatus}
+use Rattle.td_model.specs.declared.change.NewTerms.{NewTerms}
+use Rattle.td_model.specs.Changes.{with_status, with_terms}
 use Rattle.td_table_model.specs.Tables.{Keyed, Kept, Tables, code_row, guarantee_no, line_rows, movement_row, with_amount, without_amount}
 use Rattle.td_table_model.specs.Changes.{HaveSameRows, is_code_of, tables_after, with_kept_terms_of, with_row, with_status_of, with_terms_of, with_use_after}
 use Rattle.td_table_model.specs.Looking.{movement_no}

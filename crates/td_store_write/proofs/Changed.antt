@@ -8,10 +8,10 @@ use Rattle.td_movement.specs.declared.state.State.TheVariants.{Released, Written
 use Rattle.sqlite.specs.State.{State}
 use Rattle.td_guarantee.specs.declared.guarantee.Guarantee.{Guarantee}
 use Rattle.td_movement.specs.declared.movement.Movement.{Movement}
-use Rattle.td_acts.specs.declared.rows.Change.TheVariants.{Opened}
+use Rattle.td_model.specs.declared.change.Change.TheVariants.{Opened}
 use Rattle.td_model.specs.declared.holder_row.HolderRow.{HolderRow}
-use Rattle.td_acts.specs.declared.rows.NewStatus.{NewStatus}
-use Rattle.td_acts.specs.declared.rows.NewTerms.{NewTerms}
+use Rattle.td_model.specs.declared.change.NewStatus.{NewStatus}
+use Rattle.td_model.specs.declared.change.NewTerms.{NewTerms}
 use Rattle.td_table_model.specs.Tables.{Keyed, Kept, Tables, code_row, guarantee_row, line_rows, movement_row, with_amount, without_amount}
 use Rattle.td_table_model.specs.Changes.{HaveSameRows, tables_after, with_row, with_use_after}
 use Rattle.td_table_model.specs.Looking.{amount_between, movement_no}

@@ -14,23 +14,23 @@ use Rattle.td_movement.specs.declared.state.State.TheVariants.{Accepted, Cancell
 use Rattle.td_model.specs.Account.{HolderRows, account_with, guarantee_by_grn, holder_key}
 use Rattle.td_model.specs.Sound.{AreHolderRows, IsCovered, IsGuaranteeRow}
 use Rattle.td_model.specs.declared.holder_row.HolderRow.{HolderRow}
-use Rattle.td_acts.proofs.Differing.{differ_with}
-use Rattle.td_acts.proofs.Steps.{used_moved}
-use Rattle.td_acts.specs.Changes.{with_status}
-use Rattle.td_acts.specs.declared.rows.Change.{Change}
-use Rattle.td_acts.specs.declared.rows.Change.TheVariants.{Nothing, Registered, Opened, Declared, Moved, TermsSet, CodeAdded, CodeRemoved}
-use Rattle.td_acts.specs.declared.rows.NewStatus.{NewStatus}
+use Rattle.td_model.proofs.Differing.{differ_with}
+use Rattle.td_model.proofs.Steps.{used_moved}
+use Rattle.td_model.specs.Changes.{with_status}
+use Rattle.td_model.specs.declared.change.Change.{Change}
+use Rattle.td_model.specs.declared.change.Change.TheVariants.{Nothing, Registered, Opened, Declared, Moved, TermsSet, CodeAdded, CodeRemoved}
+use Rattle.td_model.specs.declared.change.NewStatus.{NewStatus}
 use Rattle.td_acts.specs.declared.rows.Verdict.{Verdict}
-use Rattle.td_desk.specs.Content.{Content, IsSound, content_after, rows_of}
-use Rattle.td_desk.specs.Weighing.{IsDecision}
-use Rattle.td_desk.proofs.Carrying.{carries}
+use Rattle.td_model.specs.Content.{Content, IsSound, content_after, rows_of}
+use Rattle.td_acts.specs.Weighing.{IsDecision}
+use Rattle.td_acts.proofs.Carrying.{carries}
 use Rattle.td_table_model.specs.Tables.{AreTablesOf, KeepAmounts, Keyed, Kept, Tables, guarantee_no, guarantee_row, guarantees_in, kept_in, numbered, with_amount, with_use, without_amount}
 use Rattle.td_table_model.specs.Changes.{CanBeWritten, ComesByMove, FollowsMoves, tables_after, used_after, with_use_after}
 use Rattle.td_table_model.specs.Gathering.{part}
 use Rattle.td_table_model.specs.Looking.{amount_between, movement_no}
 use Rattle.td_table_model.proofs.Amounts.{counted_as, counted_before}
 use Rattle.td_table_model.proofs.Changing.{each_known, number, own}
-use Rattle.td_table_model.proofs.Decided.{decided, decisions_are_written}
+use Rattle.td_store_write.proofs.Decided.{decided, decisions_are_written}
 use Rattle.td_table_model.proofs.Gathered.{HasParts, have_parts}
 use Rattle.td_table_model.proofs.Joining.{amount_of}
 use Rattle.td_table_model.proofs.Numbered.{all_numbered, all_with_numbers}

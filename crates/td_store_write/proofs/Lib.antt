@@ -1,5 +1,6 @@
 mod Written
 mod Following
+mod Decided
 mod Changed
 mod AsSaid
 mod Fitting

@@ -6,7 +6,7 @@ use Rattle.sqlite_trees.specs.Tree.{Trees}
 use Rattle.sqlite.specs.Effect.{Database}
 use Rattle.sqlite.specs.State.{State}
 use Rattle.sqlite.proofs.Callers.{one_permutation}
-use Rattle.td_desk.specs.Content.{empty_content}
+use Rattle.td_model.specs.Content.{empty_content}
 use Rattle.td_base.specs.Codes.{IsCountry}
 use Rattle.td_schema.specs.Tables.{IsEmptyOf}
 use Rattle.td_schema.specs.Layouts.{desk_schema, newest_layout, newest_version}

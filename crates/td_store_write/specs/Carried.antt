@@ -2,10 +2,10 @@
 use Rattle.std.specs.Prelude.{◌≡◌, ℕ, List, IsTrue}
 use Rattle.sqlite_trees.specs.Tree.{Trees}
 use Rattle.sqlite.specs.State.{State}
-use Rattle.td_acts.specs.declared.rows.Change.{Change}
+use Rattle.td_model.specs.declared.change.Change.{Change}
 use Rattle.td_acts.specs.declared.rows.Verdict.{Verdict}
-use Rattle.td_desk.specs.Content.{Content, content_after}
-use Rattle.td_desk.specs.Weighing.{IsDecision}
+use Rattle.td_model.specs.Content.{Content, content_after}
+use Rattle.td_acts.specs.Weighing.{IsDecision}
 use Rattle.td_store_rows.specs.StoreTables.{AreTreesOf, AreUnreadKept, HoldsContent}
 
 -- the connection holds this content, and the change is that of a decision on it, at an office of this country

@@ -4,8 +4,8 @@ use Rattle.std.specs.List.{sum_by}
 use Rattle.sqlite.specs.State.{State as FileState}
 use Rattle.td_movement.specs.declared.state.State.{State}
 use Rattle.td_movement.specs.declared.state.State.TheVariants.{Released, WrittenOff}
-use Rattle.td_acts.specs.declared.rows.Change.{Change}
-use Rattle.td_acts.specs.declared.rows.Change.TheVariants.{Moved}
+use Rattle.td_model.specs.declared.change.Change.{Change}
+use Rattle.td_model.specs.declared.change.Change.TheVariants.{Moved}
 use Rattle.td_table_model.specs.Tables.{Keyed, Kept, Tables, with_amount, without_amount}
 use Rattle.td_table_model.specs.Changes.{used_after}
 use Rattle.td_table_model.specs.Looking.{amount_between, movement_no}

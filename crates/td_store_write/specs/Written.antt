@@ -3,9 +3,9 @@ use Rattle.std.specs.Prelude.{◌≡◌, ℕ, if◌then◌else◌, List, map}
 use Rattle.sqlite.specs.State.{State}
 use Rattle.td_guarantee.specs.declared.guarantee.Guarantee.{Guarantee}
 use Rattle.td_movement.specs.declared.movement.Movement.{Movement}
-use Rattle.td_acts.specs.declared.rows.Change.{Change}
-use Rattle.td_acts.specs.declared.rows.NewStatus.{NewStatus}
-use Rattle.td_acts.specs.declared.rows.NewTerms.{NewTerms}
+use Rattle.td_model.specs.declared.change.Change.{Change}
+use Rattle.td_model.specs.declared.change.NewStatus.{NewStatus}
+use Rattle.td_model.specs.declared.change.NewTerms.{NewTerms}
 use Rattle.td_table_model.specs.Tables.{Keyed, Kept, Tables}
 use Rattle.td_table_model.specs.Changes.{tables_after, with_row, with_use_after}
 use Rattle.td_table_model.specs.Looking.{MayBeAskedByKey, movement_no}

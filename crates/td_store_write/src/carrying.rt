@@ -8,7 +8,7 @@ use crate::changes::write_change;
 use sqlite::{Connection, Error};
 use sqlite_trees::store::Alter;
 use std::alloc::Global;
-use td_acts::Change;
+use td_model::Change;
 use td_base::Country;
 use typed_sql::see_open;
 

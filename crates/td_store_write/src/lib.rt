@@ -7,7 +7,9 @@ mod amounts;
 mod carrying;
 mod changes;
 mod creating;
+mod laws;
 mod lists;
 
 pub use carrying::carry_change;
 pub use creating::create_tables;
+pub use laws::decisions_are_written;

@@ -18,11 +18,11 @@ use Rattle.td_movement.specs.declared.state.State.TheVariants.{Accepted, Cancell
 use Rattle.td_movement.specs.States.{is_counting, state_after}
 use Rattle.td_model.specs.Account.{movement_by_mrn}
 use Rattle.td_model.specs.Effects.{judged}
-use Rattle.td_acts.specs.Changes.{moved, with_terms}
-use Rattle.td_acts.specs.declared.rows.NewStatus.{NewStatus}
-use Rattle.td_acts.specs.declared.rows.NewTerms.{NewTerms}
-use Rattle.td_acts.proofs.EachMove.{arrived_from, cancelled_from, enquired_from, judged_from, released_from, written_off_from}
-use Rattle.td_acts.proofs.Steps.{MrnsDiffer, used_moved}
+use Rattle.td_model.specs.Changes.{moved, with_terms}
+use Rattle.td_model.specs.declared.change.NewStatus.{NewStatus}
+use Rattle.td_model.specs.declared.change.NewTerms.{NewTerms}
+use Rattle.td_model.proofs.EachMove.{arrived_from, cancelled_from, enquired_from, judged_from, released_from, written_off_from}
+use Rattle.td_model.proofs.Steps.{MrnsDiffer, used_moved}
 use Rattle.td_table_model.specs.Tables.{Keyed, Kept, Tables, guarantee_row, numbered, with_amount, with_use, without_amount}
 use Rattle.td_table_model.specs.Looking.{amount_between}
 use Rattle.td_table_model.specs.Rules.{IsInUse}

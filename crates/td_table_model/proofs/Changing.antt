@@ -18,18 +18,18 @@ use Rattle.td_guarantee.specs.Usage.{lines_on, used_on}
 use Rattle.td_movement.specs.declared.movement.Movement.{Movement}
 use Rattle.td_movement.specs.declared.state.State.{State}
 use Rattle.td_movement.specs.declared.state.State.TheVariants.{Accepted}
-use Rattle.td_acts.proofs.Cover.{unused_when_new}
-use Rattle.td_acts.proofs.Differing.{differ_with}
+use Rattle.td_model.proofs.Cover.{unused_when_new}
+use Rattle.td_model.proofs.Differing.{differ_with}
 use Rattle.td_model.specs.declared.holder_row.HolderRow.{HolderRow}
-use Rattle.td_acts.specs.declared.rows.NewStatus.{NewStatus}
-use Rattle.td_acts.specs.declared.rows.NewTerms.{NewTerms}
-use Rattle.td_acts.specs.declared.rows.Change.{Change}
-use Rattle.td_acts.specs.declared.rows.Change.TheVariants as change
+use Rattle.td_model.specs.declared.change.NewStatus.{NewStatus}
+use Rattle.td_model.specs.declared.change.NewTerms.{NewTerms}
+use Rattle.td_model.specs.declared.change.Change.{Change}
+use Rattle.td_model.specs.declared.change.Change.TheVariants as change
 use Rattle.td_model.specs.Account.{HolderRows, at_grn, coded, guarantee_by_grn, holder_key, uncoded}
-use Rattle.td_acts.specs.Changes.{with_terms, moved, row_in, rows_after, rows_or_new}
+use Rattle.td_model.specs.Changes.{with_terms, moved, row_in, rows_after, rows_or_new}
 use Rattle.td_model.specs.Sound.{AreHolderRows, AllNumbered, IsGuaranteeRow}
 use Rattle.td_model.specs.Table.{stands}
-use Rattle.td_desk.specs.Content.{Content, rows_of, content_after, content_after_row, IsSound}
+use Rattle.td_model.specs.Content.{Content, rows_of, content_after, content_after_row, IsSound}
 use Rattle.td_table_model.specs.Tables.{Keyed, Kept, Tables, AreTablesOf, KeepAmounts, numbered, guarantee_row, guarantee_no, with_amount, with_use, without_amount, code_row, code_rows, movement_row, line_rows, guarantees_in, kept_in, code_rows_of, movements_in, line_rows_of}
 use Rattle.td_table_model.specs.Looking.{amount_between, movement_no}
 use Rattle.td_table_model.specs.Gathering.{owner, holder_no, content_of}

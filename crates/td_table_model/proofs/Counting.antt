@@ -7,7 +7,7 @@ use Rattle.td_guarantee.specs.Usage.{movement_on, used_on}
 use Rattle.td_movement.specs.declared.movement.Movement.{Movement}
 use Rattle.td_movement.specs.States.{is_counting}
 use Rattle.td_model.specs.Account.{Account}
-use Rattle.td_desk.specs.Content.{Content, account_in, IsSound}
+use Rattle.td_model.specs.Content.{Content, account_in, IsSound}
 use Rattle.td_table_model.specs.Tables.{Keyed, Tables, AreTablesOf}
 use Rattle.td_table_model.specs.Gathering.{owner, place, part, movements_by, with_lines}
 use Rattle.td_table_model.specs.Looking.{counting_rows}

@@ -7,7 +7,7 @@ use Rattle.std.proofs.lemmas.List.Sorted.{IsPermutation-sym, IsPermutation-map, 
 use Rattle.sqlite_trees.proofs.ListLemmas.{filter_as_flat_map, flat_map-one, IsPermutation-same, IsPermutation-filter}
 use Rattle.keyed_rows.specs.Rows.{row_at, Rises, put_row}
 use Rattle.td_model.specs.Account.{HolderRows, holder_key}
-use Rattle.td_desk.specs.Content.{Content}
+use Rattle.td_model.specs.Content.{Content}
 use Rattle.td_table_model.specs.Tables.{Tables, AreTablesOf, KeepAmounts}
 use Rattle.td_table_model.specs.Changes.{HaveSameRows}
 use Rattle.td_table_model.proofs.Edits.{put_in_table}

@@ -10,14 +10,13 @@ use Rattle.td_movement.specs.declared.line.Line.{Line}
 use Rattle.td_movement.specs.declared.movement.Movement.{Movement}
 use Rattle.td_model.specs.Account.{HolderRows, guarantee_by_grn, holder_key}
 use Rattle.td_model.specs.Sound.{AreHolderRows, IsGuaranteeRow, IsMovementRow}
-use Rattle.td_desk.specs.Content.{Content, IsSound}
-use Rattle.td_table_model.specs.Tables.{Keyed, Tables, AreTablesOf, KeepAmounts, numbered, guarantee_row, code_row, code_rows, movement_row, line_row, line_rows, guarantees_in, kept_in, code_rows_of, movements_in, line_rows_of}
+use Rattle.td_model.specs.Content.{Content, IsSound}
+use Rattle.td_table_model.specs.Tables.{Keyed, Tables, AreTablesOf, KeepAmounts, numbered, guarantee_row, code_row, code_rows, movement_row, line_row, line_rows, guarantees_in, kept_in, code_rows_of, movements_in, line_rows_of, guarantee_no}
 use Rattle.td_table_model.specs.Gathering.{in_order, of_key, owner, place, no_of, code_rank, holder_no, part, guarantees_by, codes_by, movements_by, lines_by, with_codes, with_lines, line_from, gathered, content_of}
 use Rattle.td_table_model.proofs.Orders.{brought_to_order, rises-map}
 use Rattle.td_table_model.proofs.Grouped.{flat_each}
 use Rattle.td_table_model.proofs.Numbered.{number, element, numbered_rises_low, elements_are, all_numbered, map_same}
 use Rattle.td_table_model.proofs.Owned.{owned_guarantees, owned_kept, owned_codes, owned_movements, owned_lines, placed_codes, placed_lines, guarantees_rise, movements_rise, lines_rise, codes_rise}
-use Rattle.td_table_model.specs.Tables.{guarantee_no}
 use Rattle.td_table_model.proofs.References.{grn_back, grn_at}
 
 -- a holder's part of each table has just this holder's rows, and the amounts in use where they are kept

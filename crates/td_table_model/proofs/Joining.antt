@@ -18,7 +18,7 @@ use Rattle.td_movement.specs.declared.movement.Movement.{Movement}
 use Rattle.td_movement.specs.States.{is_counting}
 use Rattle.td_model.specs.Account.{HolderRows, guarantee_by_grn, holder_key, movement_by_mrn}
 use Rattle.td_model.specs.Sound.{AreHolderRows, IsMovementRow}
-use Rattle.td_desk.specs.Content.{Content, account_in, rows_of, IsSound}
+use Rattle.td_model.specs.Content.{Content, account_in, rows_of, IsSound}
 use Rattle.td_table_model.specs.Tables.{Keyed, LineCells, Tables, AreTablesOf, numbered, guarantee_row, guarantee_no, movement_row, line_row, line_rows, movements_in, line_rows_of}
 use Rattle.td_table_model.specs.Gathering.{of_key, owner, place, part}
 use Rattle.td_table_model.specs.Looking.{counting_rows, lines_of_row, lines_in_use, cents_of, amount_between, movement_no}

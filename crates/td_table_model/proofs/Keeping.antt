@@ -21,7 +21,7 @@ use Rattle.td_movement.specs.declared.movement.Movement.{Movement}
 use Rattle.td_model.specs.declared.holder_row.HolderRow.{HolderRow}
 use Rattle.td_model.specs.Account.{HolderRows, holder_key}
 use Rattle.td_model.specs.Sound.{AreHolderRows, IsGuaranteeRow}
-use Rattle.td_desk.specs.Content.{Content, IsSound}
+use Rattle.td_model.specs.Content.{Content, IsSound}
 use Rattle.td_table_model.specs.Tables.{Keyed, Tables, AreTablesOf, KeepAmounts, numbered, guarantee_row, code_row, code_rows, movement_row, line_rows, guarantees_in, kept_in, without_amount, code_rows_of, movements_in, line_rows_of}
 use Rattle.td_table_model.specs.Gathering.{IsApart, IsTextApart, holder_no, no_of, of_key, owner, part, place}
 use Rattle.td_table_model.specs.Stored.{AreStored, AreOfHolders}

@@ -14,8 +14,8 @@ use Rattle.td_movement.specs.declared.movement.Movement.{Movement}
 use Rattle.td_commands.specs.Lines.{IsLineAmount}
 use Rattle.td_model.specs.Account.{HolderRows, guarantee_by_grn}
 use Rattle.td_model.specs.Sound.{AreHolderRows, IsGuaranteeRow, IsMovementRow, IsCovered}
-use Rattle.td_acts.proofs.Joined.{AllPairs-map}
-use Rattle.td_desk.specs.Content.{Content, IsSound}
+use Rattle.td_model.proofs.Joined.{AllPairs-map}
+use Rattle.td_model.specs.Content.{Content, IsSound}
 use Rattle.td_table_model.specs.Tables.{Keyed, LineCells, Tables, AreTablesOf, numbered, guarantee_row, guarantee_no, code_row, code_rows, movement_row, line_row, line_rows, guarantees_in, kept_in, with_use, code_rows_of, movements_in, line_rows_of}
 use Rattle.td_table_model.specs.Gathering.{IsApart, guarantees_by, lines_by, movements_by, no_of, of_key, part, place}
 use Rattle.td_table_model.specs.Rules.{IsGuaranteeInRange, HasGuarantees, HasCodes, IsMovementInRange, HasMovements, AreLinesInRange, HasLines, HasAmounts, IsInUse, KeepsRules, KeepRules, count_of_codes, named_by}

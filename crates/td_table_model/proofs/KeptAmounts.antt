@@ -10,7 +10,7 @@ use Rattle.td_guarantee.specs.declared.guarantee.Guarantee.{Guarantee}
 use Rattle.td_guarantee.specs.Usage.{used_on}
 use Rattle.td_movement.specs.declared.movement.Movement.{Movement}
 use Rattle.td_model.specs.Account.{HolderRows, holder_key}
-use Rattle.td_desk.specs.Content.{Content, IsSound, account_in}
+use Rattle.td_model.specs.Content.{Content, IsSound, account_in}
 use Rattle.td_table_model.specs.Tables.{Keyed, Kept, guarantees_in, kept_in, with_use}
 use Rattle.td_table_model.specs.Gathering.{owner}
 use Rattle.td_table_model.specs.Laws.{AmountsAreUse, IsAmountOf, TablesGrow}

@@ -10,7 +10,6 @@ pub mod WithCodes
 pub mod Following
 pub mod OwnRows
 pub mod Changing
-pub mod Decided
 pub mod Rebuilt
 pub mod Ruled
 pub mod Pairs

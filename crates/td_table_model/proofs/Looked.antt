@@ -12,8 +12,8 @@ use Rattle.td_guarantee.specs.declared.guarantee.Guarantee.{Guarantee}
 use Rattle.td_movement.specs.declared.movement.Movement.{Movement}
 use Rattle.td_model.specs.Account.{HolderRows, ReferencesDiffer, holder_key}
 use Rattle.td_model.specs.Sound.{AreHolderRows}
-use Rattle.td_desk.specs.Content.{Content, account_in, rows_of, IsSound}
-use Rattle.td_desk.proofs.Differing.{references_differ}
+use Rattle.td_model.specs.Content.{Content, account_in, rows_of, IsSound}
+use Rattle.td_model.proofs.Kept.{references_differ}
 use Rattle.td_table_model.specs.Tables.{Keyed, Tables, AreTablesOf, guarantees_in, movements_in}
 use Rattle.td_table_model.specs.Gathering.{IsApart, IsTextApart, guarantees_by, holder_no, in_order, movements_by, owner, part, place, with_codes, with_lines}
 use Rattle.td_table_model.specs.Stored.{AreStored}

@@ -14,10 +14,10 @@ use Rattle.td_base.specs.References.{serial_of, greatest_grn_serial}
 use Rattle.td_guarantee.specs.declared.guarantee.Guarantee.{Guarantee}
 use Rattle.td_guarantee.specs.Codes.{with_code, without_code}
 use Rattle.td_movement.specs.declared.movement.Movement.{Movement}
-use Rattle.td_acts.specs.declared.rows.NewStatus.{NewStatus}
-use Rattle.td_acts.specs.declared.rows.NewTerms.{NewTerms}
+use Rattle.td_model.specs.declared.change.NewStatus.{NewStatus}
+use Rattle.td_model.specs.declared.change.NewTerms.{NewTerms}
 use Rattle.td_model.specs.Account.{at_grn, coded, uncoded, guarantee_by_grn}
-use Rattle.td_acts.specs.Changes.{with_terms, with_status, moved}
+use Rattle.td_model.specs.Changes.{with_terms, with_status, moved}
 use Rattle.td_model.specs.Sound.{AllNumbered, IsGuaranteeRow}
 use Rattle.td_model.specs.Table.{stands}
 use Rattle.td_table_model.specs.Tables.{Keyed, numbered, guarantee_row, guarantee_no, code_row, code_rows, movement_row, line_rows}

@@ -23,8 +23,8 @@ use Rattle.td_commands.specs.Lines.{IsLineAmount}
 use Rattle.td_model.specs.declared.holder_row.HolderRow.{HolderRow}
 use Rattle.td_model.specs.Account.{guarantee_by_grn, holder_key}
 use Rattle.td_model.specs.Sound.{AreCodes, AreMovementLines, IsGuaranteeRow, IsMovementRow, AreHolderRows}
-use Rattle.td_acts.proofs.Joined.{AllPairs-map}
-use Rattle.td_desk.specs.Content.{IsSound}
+use Rattle.td_model.proofs.Joined.{AllPairs-map}
+use Rattle.td_model.specs.Content.{IsSound}
 use Rattle.td_table_model.specs.Tables.{Keyed, LineCells, Tables, guarantee_no}
 use Rattle.td_table_model.specs.Gathering.{IsApart, code_rank, codes_by, content_of, gathered, grn_by, guarantees_by, holder_no, in_order, line_from, lines_by, movements_by, no_of, of_key, owner, part, place, text_rank, with_codes, with_lines}
 use Rattle.td_table_model.specs.Stored.{AreStored}

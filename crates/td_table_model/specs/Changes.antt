@@ -10,14 +10,14 @@ use Rattle.td_movement.specs.declared.state.State.{State}
 use Rattle.td_movement.specs.declared.state.State.TheVariants.{Accepted, Released, WrittenOff}
 use Rattle.td_movement.specs.States.{state_after}
 use Rattle.td_model.specs.declared.holder_row.HolderRow.{HolderRow}
-use Rattle.td_acts.specs.declared.rows.NewStatus.{NewStatus}
-use Rattle.td_acts.specs.declared.rows.NewTerms.{NewTerms}
-use Rattle.td_acts.specs.declared.rows.Change.{Change}
-use Rattle.td_acts.specs.declared.rows.Change.TheVariants.{Nothing, Registered, Opened, Declared, Moved, TermsSet, CodeAdded, CodeRemoved}
+use Rattle.td_model.specs.declared.change.NewStatus.{NewStatus}
+use Rattle.td_model.specs.declared.change.NewTerms.{NewTerms}
+use Rattle.td_model.specs.declared.change.Change.{Change}
+use Rattle.td_model.specs.declared.change.Change.TheVariants.{Nothing, Registered, Opened, Declared, Moved, TermsSet, CodeAdded, CodeRemoved}
 use Rattle.td_model.specs.Account.{at_grn, guarantee_by_grn, movement_by_mrn}
-use Rattle.td_acts.specs.Changes.{with_terms, moved}
+use Rattle.td_model.specs.Changes.{with_terms, moved}
 use Rattle.td_model.specs.Table.{stands}
-use Rattle.td_desk.specs.Content.{Content, account_in, rows_of}
+use Rattle.td_model.specs.Content.{Content, account_in, rows_of}
 use Rattle.td_table_model.specs.Tables.{Keyed, Kept, Tables, KeepAmounts, guarantee_row, guarantee_no, with_amount, without_amount, code_row, code_rows, movement_row, line_rows}
 use Rattle.td_table_model.specs.Looking.{amount_between, movement_no}
 

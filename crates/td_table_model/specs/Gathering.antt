@@ -9,7 +9,7 @@ use Rattle.td_movement.specs.declared.line.Line.{Line}
 use Rattle.td_movement.specs.declared.movement.Movement.{Movement}
 use Rattle.td_model.specs.declared.holder_row.HolderRow.{HolderRow}
 use Rattle.td_model.specs.Account.{HolderRows}
-use Rattle.td_desk.specs.Content.{Content}
+use Rattle.td_model.specs.Content.{Content}
 use Rattle.td_table_model.specs.Tables.{Keyed, LineCells, Tables}
 
 -- rows in ascending order of their keys

@@ -4,10 +4,8 @@ use Rattle.std.specs.List.{AllByRecursion, sum_by}
 use Rattle.std.specs.List.Sorted.{IsPermutation}
 use Rattle.td_guarantee.specs.Usage.{used_on}
 use Rattle.td_movement.specs.declared.movement.Movement.{Movement}
-use Rattle.td_acts.specs.declared.rows.Change.{Change}
-use Rattle.td_acts.specs.declared.rows.Verdict.{Verdict}
-use Rattle.td_desk.specs.Content.{Content, account_in, content_after, IsSound}
-use Rattle.td_desk.specs.Weighing.{IsDecision}
+use Rattle.td_model.specs.declared.change.Change.{Change}
+use Rattle.td_model.specs.Content.{Content, account_in, content_after, IsSound}
 use Rattle.td_model.specs.Account.{guarantee_by_grn}
 use Rattle.td_table_model.specs.Tables.{Keyed, Kept, LineCells, Tables, AreTablesOf, KeepAmounts, guarantee_no, version_with_amounts, without_amount}
 use Rattle.td_table_model.specs.Gathering.{content_of, with_lines}
@@ -27,13 +25,6 @@ ChangesAreWritten =
     → CanBeWritten c change → (KeepAmounts old → FollowsMoves c change)
     → AreTablesOf old c → HaveSameRows (tables_after change old) new
     → AreTablesOf new (content_after change c) × (content_of new ≡ content_after change c)
-
--- The same of what a desk decides on a command over that content: its statements write it.
-abbrev pub DecisionsAreWritten : Type 0
-DecisionsAreWritten =
-    (v : Verdict) (old new : Tables) (c : Content) → IsSound c → IsDecision c v → AreTablesOf old c
-    → HaveSameRows (tables_after v.change old) new
-    → AreTablesOf new (content_after v.change c) × (content_of new ≡ content_after v.change c)
 
 -- tables that keep the rules are tables of the content that they hold
 abbrev pub RuledTablesAreOfContent : Type 0

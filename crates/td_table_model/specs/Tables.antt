@@ -10,7 +10,7 @@ use Rattle.td_movement.specs.declared.line.Line.{Line}
 use Rattle.td_movement.specs.declared.movement.Movement.{Movement}
 use Rattle.td_model.specs.declared.holder_row.HolderRow.{HolderRow}
 use Rattle.td_model.specs.Account.{HolderRows}
-use Rattle.td_desk.specs.Content.{Content}
+use Rattle.td_model.specs.Content.{Content}
 
 -- a row of a table whose key begins with a holder's number and a serial of this holder's
 pub record Keyed (R : Type 0) : Type 0 where

@@ -1,5 +1,5 @@
 //! Laws of the tables, as contracts of functions that do nothing.
-ghost use Rattle.td_table_model.specs.Laws.{AccountsAreInTables, AmountsAreUse, ChangesAreWritten, ContentIsOfTables, CountingRowsAreUse, DecisionsAreWritten, LinesInUseAreUse, ReferencesTellKeys, RowsAreFoundInTables, RuledContentIsSound, RuledTablesAreOfContent, RulesMeanSoundContent, TablesGrow};
+ghost use Rattle.td_table_model.specs.Laws.{AccountsAreInTables, AmountsAreUse, ChangesAreWritten, ContentIsOfTables, CountingRowsAreUse, LinesInUseAreUse, ReferencesTellKeys, RowsAreFoundInTables, RuledContentIsSound, RuledTablesAreOfContent, RulesMeanSoundContent, TablesGrow};
 ghost use Rattle.td_table_model.specs.Rules.{RulesAreKeptEach};
 
 /// Tables that have just the rows of sound content have that content.
@@ -10,11 +10,6 @@ pub fn content_is_of_tables()
 /// The statements of a change turn tables of a content into tables of the content after the change.
 pub fn changes_are_written()
     ensures { ChangesAreWritten }
-{}
-
-/// The statements of what a desk decides on a command write it.
-pub fn decisions_are_written()
-    ensures { DecisionsAreWritten }
 {}
 
 /// Tables keep the rules exactly where they are the tables of some sound content; and then they are those of

@@ -7,7 +7,6 @@ mod rule;
 
 pub use laws::{
     accounts_are_in_tables, amounts_are_use, changes_are_written, content_is_of_tables,
-    decisions_are_written, references_tell_keys, rules_are_kept_each, rules_mean_sound_content,
-    tables_grow,
+    references_tell_keys, rules_are_kept_each, rules_mean_sound_content, tables_grow,
 };
 pub use rule::Rule;

@@ -7,9 +7,9 @@ use Rattle.td_movement.specs.declared.movement.Movement.{Movement}
 use Rattle.td_movement.specs.declared.state.State.{State}
 use Rattle.td_movement.specs.declared.state.State.TheVariants.{Accepted, Arrived, Released, WrittenOff}
 use Rattle.td_model.specs.declared.holder_row.HolderRow.{HolderRow}
-use Rattle.td_acts.specs.declared.rows.Change.TheVariants.{Declared, Moved, CodeAdded, CodeRemoved}
-use Rattle.td_acts.specs.Deciding.{new_state}
-use Rattle.td_desk.specs.Content.{Content}
+use Rattle.td_model.specs.declared.change.Change.TheVariants.{Declared, Moved, CodeAdded, CodeRemoved}
+use Rattle.td_model.specs.Changes.{new_state}
+use Rattle.td_model.specs.Content.{Content}
 use Rattle.td_table_model.specs.Tables.{Keyed, Kept, LineCells, Tables, first_version, version_with_amounts, with_amount}
 use Rattle.td_table_model.specs.Gathering.{content_of}
 use Rattle.td_table_model.specs.Changes.{tables_after}

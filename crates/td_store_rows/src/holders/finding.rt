@@ -12,7 +12,7 @@ use crate::holders::texts::BY_NUMBER;
 use sqlite::{Error, Transaction};
 use sqlite_trees::store::Alter;
 use std::alloc::Global;
-use td_acts::HolderRow;
+use td_model::HolderRow;
 use td_base::HolderNo;
 use td_schema::holder_key;
 

@@ -1,7 +1,7 @@
 //! Holders as their rows have them, read from the columns that a statement shows.
 use sqlite::Row;
 use std::alloc::Global;
-use td_acts::HolderRow;
+use td_model::HolderRow;
 use td_schema::{eori_at, holder_at, moment_at, serial_at};
 use typed_sql::FromRow;
 

@@ -12,7 +12,7 @@ use crate::holders::texts::{INSERT, SET};
 use sqlite::{Error, Transaction};
 use sqlite_trees::store::Alter;
 use sqlite_value::value::ValueRef;
-use td_acts::HolderRow;
+use td_model::HolderRow;
 use td_schema::number_of;
 
 // The columns of a holder's row.

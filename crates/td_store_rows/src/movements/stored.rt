@@ -2,7 +2,7 @@
 use keyed_rows::Keyed;
 use sqlite::Row;
 use std::alloc::Global;
-use td_acts::ListedMovement;
+use td_commands::ListedMovement;
 use td_base::{Day, HolderNo, Mrn};
 use td_movement::{Movement, MovementLines, State};
 use td_schema::{

@@ -1,7 +1,7 @@
 //! A store that a fault may shut, as a store in a file is.
 ghost use Rattle.std.specs.Prelude.{◌≡◌, ℕ, IfOk, IsTrue};
 ghost use Rattle.td_model.specs.Book.{Book};
-ghost use Rattle.td_desk.specs.Content.{Content, IsSound};
+ghost use Rattle.td_model.specs.Content.{Content, IsSound};
 ghost use Rattle.td_desk.specs.Runs.{IsTied, IsRun};
 
 use std::alloc::{AllocError, Global};

@@ -7,12 +7,12 @@ use Rattle.td_commands.specs.declared.said.Refusal.TheVariants.{NoMovement}
 use Rattle.td_commands.specs.declared.said.Said.{Said}
 use Rattle.td_commands.specs.declared.said.Said.TheVariants.{Answered}
 use Rattle.td_model.specs.Account.{movement_by_mrn}
-use Rattle.td_acts.specs.Deciding.{new_state}
+use Rattle.td_model.specs.Changes.{new_state}
 use Rattle.td_base.specs.Days.{day_of_moment}
 use Rattle.td_movement.specs.declared.state.State.TheVariants.{Arrived}
 use Rattle.td_model.specs.Table.{is_late}
 use Rattle.std.specs.Prelude.{Some}
-use Rattle.td_acts.proofs.EachMove.{arrived_from}
+use Rattle.td_model.proofs.EachMove.{arrived_from}
 use Rattle.td_acts.proofs.Told.{on_status, told_moved, told_unmoving}
 use Rattle.td_acts.proofs.moving.arrive.Goals as goal
 

@@ -2,18 +2,19 @@ use Rattle.std.proofs.Common.{refl, sym, ◌∙◌, ap}
 use Rattle.td_movement.specs.declared.movement.Movement.{Movement}
 use Rattle.td_movement.specs.declared.moves.Move.TheVariants.{Enquire}
 use Rattle.td_commands.specs.declared.command.Command.TheVariants.{Ie140}
-use Rattle.td_acts.specs.declared.rows.Change.TheVariants.{Moved}
+use Rattle.td_model.specs.declared.change.Change.TheVariants.{Moved}
 use Rattle.td_commands.specs.declared.said.Answer.TheVariants as answer
 use Rattle.td_commands.specs.declared.said.Refusal.TheVariants.{NoMovement, TooEarly}
 use Rattle.td_commands.specs.declared.said.Said.{Said}
 use Rattle.td_commands.specs.declared.said.Said.TheVariants.{Answered}
 use Rattle.td_model.specs.Account.{movement_by_mrn}
-use Rattle.td_acts.specs.Deciding.{new_state, touched}
+use Rattle.td_acts.specs.Deciding.{touched}
+use Rattle.td_model.specs.Changes.{new_state}
 use Rattle.td_base.specs.Days.{day_of_moment}
 use Rattle.td_movement.specs.declared.state.State.TheVariants.{Enquired}
 use Rattle.td_model.specs.Table.{may_be_asked_after, refuse_if}
 use Rattle.std.specs.Prelude.{not}
-use Rattle.td_acts.proofs.EachMove.{enquired_from}
+use Rattle.td_model.proofs.EachMove.{enquired_from}
 use Rattle.td_acts.proofs.Told.{on_status, told_moved, told_unmoved, told_unmoving}
 use Rattle.td_acts.proofs.moving.enquire.Goals as goal
 

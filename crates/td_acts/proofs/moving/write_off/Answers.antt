@@ -2,15 +2,16 @@ use Rattle.std.proofs.Common.{refl, ◌∙◌, ap}
 use Rattle.td_movement.specs.declared.movement.Movement.{Movement}
 use Rattle.td_movement.specs.declared.moves.Move.TheVariants.{WriteOff}
 use Rattle.td_commands.specs.declared.command.Command.TheVariants.{Ie045}
-use Rattle.td_acts.specs.declared.rows.Change.TheVariants.{Moved}
+use Rattle.td_model.specs.declared.change.Change.TheVariants.{Moved}
 use Rattle.td_commands.specs.declared.said.Answer.TheVariants as answer
 use Rattle.td_commands.specs.declared.said.Refusal.TheVariants.{NoMovement}
 use Rattle.td_commands.specs.declared.said.Said.{Said}
 use Rattle.td_commands.specs.declared.said.Said.TheVariants.{Answered}
 use Rattle.td_model.specs.Account.{movement_by_mrn}
-use Rattle.td_acts.specs.Deciding.{new_state, touched}
+use Rattle.td_acts.specs.Deciding.{touched}
+use Rattle.td_model.specs.Changes.{new_state}
 use Rattle.td_movement.specs.declared.state.State.TheVariants.{WrittenOff}
-use Rattle.td_acts.proofs.EachMove.{written_off_from}
+use Rattle.td_model.proofs.EachMove.{written_off_from}
 use Rattle.td_acts.proofs.Told.{on_status, told_moved, told_unmoving}
 use Rattle.td_acts.proofs.moving.write_off.Goals as goal
 

@@ -1,5 +1,5 @@
-use Rattle.std.proofs.Common.{◌≡◌, true, false, refl, sym, ◌∙◌, ap}
-use Rattle.std.specs.Prelude.{not, option_map, Some}
+use Rattle.std.proofs.Common.{◌≡◌, true, false, refl, sym, ◌∙◌, ap, ℕ, subst}
+use Rattle.std.specs.Prelude.{not, option_map, Some, IfSome}
 use Rattle.td_base.specs.Days.{day_of_moment}
 use Rattle.td_movement.specs.declared.movement.Movement.{Movement}
 use Rattle.td_movement.specs.declared.moves.Move.TheVariants.{Release}
@@ -8,18 +8,15 @@ use Rattle.td_commands.specs.declared.command.Command.TheVariants.{Ie029}
 use Rattle.td_commands.specs.declared.said.Answer.TheVariants as answer
 use Rattle.td_commands.specs.declared.said.Refusal.TheVariants.{NoMovement, LimitDate}
 use Rattle.td_commands.specs.declared.said.Said.TheVariants.{Answered}
-use Rattle.td_model.specs.Account.{movement_by_mrn, entry_in}
-use Rattle.td_acts.specs.Deciding.{new_state}
+use Rattle.td_model.specs.Account.{movement_by_mrn, entry_in, Account}
+use Rattle.td_model.specs.Changes.{new_state}
 use Rattle.td_model.specs.Declaring.{is_limit, first_uncovered}
 use Rattle.td_model.specs.Table.{refuse_if, if_not_refused}
 use Rattle.std.specs.List.{AllByRecursion}
-use Rattle.std.specs.Prelude.{IfSome}
-use Rattle.td_model.specs.Account.{Account}
 use Rattle.td_acts.specs.Deciding.{entry_by_grn, terms_alone}
 use Rattle.td_commands.specs.declared.said.Said.{Said}
-use Rattle.std.proofs.Common.{ℕ, subst}
 use Rattle.td_acts.proofs.Covering.{same_uncovered}
-use Rattle.td_acts.proofs.EachMove.{released_from}
+use Rattle.td_model.proofs.EachMove.{released_from}
 use Rattle.td_acts.proofs.Told.{on_whole, told_moved, told_unmoved}
 use Rattle.td_acts.proofs.releasing.release.Goals as goal
 

@@ -4,7 +4,7 @@ use Rattle.std.proofs.lemmas.Bool.Decides.{nat_tests}
 use Rattle.td_guarantee.specs.declared.guarantee.Guarantee.{Guarantee}
 use Rattle.td_guarantee.specs.Usage.{used_on}
 use Rattle.td_commands.specs.declared.command.Command.TheVariants.{AddCode}
-use Rattle.td_acts.specs.declared.rows.Change.TheVariants.{CodeAdded}
+use Rattle.td_model.specs.declared.change.Change.TheVariants.{CodeAdded}
 use Rattle.td_commands.specs.declared.said.Answer.TheVariants as answer
 use Rattle.td_commands.specs.declared.said.Refusal.TheVariants.{NoHolder, CodeKnown, CodesFull}
 use Rattle.td_commands.specs.declared.said.Said.{Said}

@@ -4,13 +4,14 @@ use Rattle.std.proofs.lemmas.Bool.Decides.{nat_tests}
 use Rattle.td_guarantee.specs.declared.guarantee.Guarantee.{Guarantee}
 use Rattle.td_guarantee.specs.Usage.{used_on}
 use Rattle.td_commands.specs.declared.command.Command.TheVariants.{Amend}
-use Rattle.td_acts.specs.declared.rows.Change.TheVariants.{TermsSet}
+use Rattle.td_model.specs.declared.change.Change.TheVariants.{TermsSet}
 use Rattle.td_commands.specs.declared.said.Answer.TheVariants as answer
 use Rattle.td_commands.specs.declared.said.Refusal.TheVariants.{NoGuarantee, BelowUse}
 use Rattle.td_commands.specs.declared.said.Said.{Said}
 use Rattle.td_commands.specs.declared.said.Said.TheVariants.{Answered}
 use Rattle.td_model.specs.Account.{Account}
-use Rattle.td_acts.specs.Deciding.{entry_by_grn, no_terms}
+use Rattle.td_acts.specs.Deciding.{entry_by_grn}
+use Rattle.td_model.specs.Changes.{no_terms}
 use Rattle.td_model.specs.Effects.{amended}
 use Rattle.td_model.specs.Table.{refuse_if}
 use Rattle.td_acts.proofs.Told.{told_named, told_unnamed, same_guarantee, same_use}

@@ -4,7 +4,7 @@ use Rattle.std.proofs.lemmas.Bool.Decides.{nat_tests}
 use Rattle.td_guarantee.specs.declared.guarantee.Guarantee.{Guarantee}
 use Rattle.td_guarantee.specs.Usage.{used_on}
 use Rattle.td_commands.specs.declared.command.Command.TheVariants.{RemoveCode}
-use Rattle.td_acts.specs.declared.rows.Change.TheVariants.{CodeRemoved}
+use Rattle.td_model.specs.declared.change.Change.TheVariants.{CodeRemoved}
 use Rattle.td_commands.specs.declared.said.Answer.TheVariants as answer
 use Rattle.td_commands.specs.declared.said.Refusal.TheVariants.{NoHolder, NoCode, LastCode}
 use Rattle.td_commands.specs.declared.said.Said.{Said}

@@ -3,12 +3,13 @@ use Rattle.std.specs.Prelude.{option_map, is_some}
 use Rattle.td_base.specs.Days.{day_of_moment}
 use Rattle.td_guarantee.specs.declared.guarantee.Guarantee.{Guarantee}
 use Rattle.td_commands.specs.declared.command.Command.TheVariants.{Revoke}
-use Rattle.td_acts.specs.declared.rows.Change.TheVariants.{TermsSet}
+use Rattle.td_model.specs.declared.change.Change.TheVariants.{TermsSet}
 use Rattle.td_commands.specs.declared.said.Answer.TheVariants as answer
 use Rattle.td_commands.specs.declared.said.Refusal.TheVariants.{NoGuarantee, AlreadyEnded}
 use Rattle.td_commands.specs.declared.said.Said.{Said}
 use Rattle.td_commands.specs.declared.said.Said.TheVariants.{Answered}
-use Rattle.td_acts.specs.Deciding.{entry_by_grn, no_terms}
+use Rattle.td_acts.specs.Deciding.{entry_by_grn}
+use Rattle.td_model.specs.Changes.{no_terms}
 use Rattle.td_model.specs.Effects.{end_after}
 use Rattle.td_model.specs.Table.{refuse_if}
 use Rattle.td_acts.proofs.Told.{told_named, told_unnamed, same_guarantee, same_use}

@@ -1,8 +1,8 @@
 use Rattle.std.proofs.Common.{◌∙◌, ap, sym, subst, inl, inr, Err, w64}
 use Rattle.std.proofs.lemmas.Int.{to_z-of_z}
 use Rattle.td_commands.specs.declared.command.Stamped.{Stamped}
-use Rattle.td_desk.specs.Content.{Content, IsSound}
-use Rattle.td_desk.specs.Weighing.{IsWeighed, Carries}
+use Rattle.td_model.specs.Content.{Content, IsSound}
+use Rattle.td_acts.specs.Weighing.{IsWeighed, Carries}
 use Rattle.td_desk.proofs.Leaving.{left_failed, left_said, settled_said}
 use Rattle.td_desk.specs.declared.fault.Fault.TheVariants as fault
 use Rattle.td_batch.specs.Runs.{at_moment}

@@ -3,7 +3,7 @@ use Rattle.std.proofs.lemmas.Bool.Decides.{nat_tests}
 use Rattle.std.proofs.lemmas.List.{get_or_default}
 use Rattle.std.proofs.lemmas.Result.{on_ok_weaker}
 use Rattle.td_model.specs.Account.{HolderRows, holder_key}
-use Rattle.td_acts.specs.Changes.{rows_after}
+use Rattle.td_model.specs.Changes.{rows_after}
 use Rattle.keyed_rows.specs.Rows.{Rises}
 use Rattle.keyed_rows.proofs.Places.{below}
 use Rattle.td_desk.proofs.Storing.{stored_in_place, order_stays, stored_new, order_new}

@@ -1,6 +1,6 @@
 use Rattle.std.proofs.Common.{rules}
-use Rattle.td_desk.specs.Content.{IsSound}
-use Rattle.td_desk.specs.Weighing.{IsWeighed}
+use Rattle.td_model.specs.Content.{IsSound}
+use Rattle.td_acts.specs.Weighing.{IsWeighed}
 use Rattle.td_desk.proofs.Leaving.{adds_more, left_failed, left_said}
 use Rattle.td_desk.proofs.Releasing.{weighed_find}
 use Rattle.td_desk.proofs.running.do_one.Goals as goal

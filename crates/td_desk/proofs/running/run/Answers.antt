@@ -7,7 +7,7 @@ use Rattle.td_desk.specs.declared.running.Outcome.{Outcome}
 use Rattle.td_desk.specs.declared.running.Outcome.TheVariants as outcome
 use Rattle.std.specs.Prelude.{All}
 use Rattle.td_commands.specs.declared.command.Stamped.{Stamped}
-use Rattle.td_desk.specs.Content.{Content}
+use Rattle.td_model.specs.Content.{Content}
 use Rattle.td_desk.specs.Runs.{IsRun}
 use Rattle.td_desk.proofs.Calls.{one_outcome_more, before_and_last}
 use Rattle.td_desk.proofs.Turns.{run_on}

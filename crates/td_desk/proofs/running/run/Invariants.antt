@@ -3,7 +3,7 @@ use Rattle.std.specs.Prelude.{vec_capacity, All}
 use Rattle.td_model.specs.Book.{Book}
 use Rattle.td_desk.specs.declared.fault.Fault.TheVariants as fault
 use Rattle.td_desk.specs.declared.running.Outcome.TheVariants as outcome
-use Rattle.td_desk.specs.Content.{Content, IsSound}
+use Rattle.td_model.specs.Content.{Content, IsSound}
 use Rattle.td_desk.specs.Runs.{AreOutcomesOf, IsTied, IsRun}
 use Rattle.td_desk.proofs.running.run.Given as goal
 

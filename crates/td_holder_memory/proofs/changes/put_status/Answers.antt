@@ -1,5 +1,5 @@
 use Rattle.std.proofs.Common.{◌≡◌, ◌<◌, suc, ◌+◌, length, get_or, set, sym, ◌∙◌, ap, subst, arith}
-use Rattle.td_acts.specs.Changes.{with_status, moved}
+use Rattle.td_model.specs.Changes.{with_status, moved}
 use Rattle.td_holder_memory.proofs.Mapping.{mapped_to, next_unmapped, one_more, all_mapped, moved_is, moved_not}
 use Rattle.td_holder_memory.proofs.changes.put_status.Goals as goal
 use Rattle.td_holder_memory.proofs.changes.put_status.Goals.{then-eq, else-eq}

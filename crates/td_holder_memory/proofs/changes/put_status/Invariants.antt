@@ -1,5 +1,5 @@
 use Rattle.std.proofs.Common.{◌≡◌, ◌++◌, map, take, drop}
-use Rattle.td_acts.specs.Changes.{moved}
+use Rattle.td_model.specs.Changes.{moved}
 use Rattle.td_holder_memory.proofs.changes.put_status.Given as goal
 
 -- those before are in their states, and the others as they were

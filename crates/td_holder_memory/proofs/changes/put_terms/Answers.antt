@@ -1,7 +1,7 @@
 use Rattle.std.proofs.Common.{◌≡◌, ◌<◌, suc, ◌+◌, length, get_or, set, sym, ◌∙◌, ap, subst, arith}
 use Rattle.td_guarantee.specs.declared.guarantee.Guarantee.{Guarantee}
 use Rattle.td_model.specs.Account.{at_grn}
-use Rattle.td_acts.specs.Changes.{with_terms}
+use Rattle.td_model.specs.Changes.{with_terms}
 use Rattle.td_holder_memory.proofs.Mapping.{mapped_to, next_unmapped, one_more, all_mapped, named_is, named_not}
 use Rattle.td_holder_memory.proofs.changes.put_terms.Goals as goal
 use Rattle.td_holder_memory.proofs.changes.put_terms.Goals.{then-eq, else-eq}

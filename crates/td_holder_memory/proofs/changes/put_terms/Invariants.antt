@@ -1,6 +1,6 @@
 use Rattle.std.proofs.Common.{◌≡◌, ◌++◌, map, take, drop}
 use Rattle.td_model.specs.Account.{at_grn}
-use Rattle.td_acts.specs.Changes.{with_terms}
+use Rattle.td_model.specs.Changes.{with_terms}
 use Rattle.td_holder_memory.proofs.changes.put_terms.Given as goal
 
 -- those before have their terms, and the others are as they were

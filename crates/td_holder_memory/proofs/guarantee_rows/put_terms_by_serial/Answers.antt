@@ -1,7 +1,7 @@
 use Rattle.std.proofs.Common.{◌≡◌, ◌++◌, map, set, refl, sym, ◌∙◌, ap, ap₂}
 use Rattle.std.proofs.lemmas.List.{take-append-drop, map-append}
 use Rattle.td_model.specs.Account.{at_grn}
-use Rattle.td_acts.specs.Changes.{with_terms}
+use Rattle.td_model.specs.Changes.{with_terms}
 use Rattle.td_holder_memory.proofs.BySerial.{one_made, none_made}
 use Rattle.td_holder_memory.proofs.guarantee_rows.put_terms_by_serial.Goals as goal
 use Rattle.td_holder_memory.proofs.guarantee_rows.put_terms_by_serial.Goals.{in-Some, in_default}

@@ -2,9 +2,9 @@ use Rattle.std.proofs.Common.{◌≡◌, ◌∙◌, false, not, is_ok, sym, ap, 
 use Rattle.std.proofs.lemmas.Int.{to_z-of_z}
 use Rattle.td_commands.specs.declared.command.Stamped.{Stamped}
 use Rattle.td_commands.specs.declared.said.Said.{Said}
-use Rattle.td_desk.specs.Content.{Content, IsSound}
+use Rattle.td_model.specs.Content.{Content, IsSound}
 use Rattle.td_desk.specs.Runs.{LeavesAfter}
-use Rattle.td_desk.specs.Weighing.{IsWeighed, Carries}
+use Rattle.td_acts.specs.Weighing.{IsWeighed, Carries}
 use Rattle.td_desk.proofs.Leaving.{left_failed, left_said, settled_said}
 use Rattle.td_answers.specs.Answers.{said_reply}
 use Rattle.td_http.proofs.service.weigh_and_carry.Goals as goal

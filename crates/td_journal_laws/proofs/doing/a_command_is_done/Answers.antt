@@ -1,6 +1,6 @@
 use Rattle.std.proofs.Common.{◌≡◌, ◌∙◌, ℤ, None, inr, of_z, refl, rules, subst, sym, to_z, w64}
-use Rattle.td_desk.specs.Content.{Content, IsSound}
-use Rattle.td_desk.specs.Weighing.{IsWeighed}
+use Rattle.td_model.specs.Content.{Content, IsSound}
+use Rattle.td_acts.specs.Weighing.{IsWeighed}
 use Rattle.td_desk.proofs.Leaving.{adds_none, left_failed, left_said}
 use Rattle.td_journal.specs.Journaled.{journaled}
 use Rattle.td_journal_laws.proofs.doing.a_command_is_done.Goals as goal

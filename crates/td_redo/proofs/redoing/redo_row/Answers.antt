@@ -1,9 +1,9 @@
 use Rattle.std.proofs.Common.{◌≡◌, ℕ, ℤ, List, None, of_z, rules, subst, to_z, w64}
 use Rattle.td_commands.specs.declared.command.Stamped.{Stamped}
 use Rattle.td_acts.specs.declared.rows.Verdict.{Verdict}
-use Rattle.td_acts.specs.Changes.{is_change}
-use Rattle.td_desk.specs.Content.{IsSound}
-use Rattle.td_desk.specs.Weighing.{IsWeighed}
+use Rattle.td_model.specs.Changes.{is_change}
+use Rattle.td_model.specs.Content.{IsSound}
+use Rattle.td_acts.specs.Weighing.{IsWeighed}
 use Rattle.td_desk.proofs.Leaving.{left_failed}
 use Rattle.td_redo.specs.Endings.{IsEndingFor}
 use Rattle.td_redo.specs.declared.redoing.Redone.{Redone}

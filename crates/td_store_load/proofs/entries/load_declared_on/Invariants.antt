@@ -3,7 +3,7 @@ use Rattle.std.specs.Prelude.{filter_map}
 use Rattle.sqlite.specs.Held.{state}
 use Rattle.sqlite.specs.State.{HasCleanDisk}
 use Rattle.td_model.specs.Account.{entry_in}
-use Rattle.td_desk.specs.Content.{account_in}
+use Rattle.td_model.specs.Content.{account_in}
 use Rattle.td_store_rows.specs.StoreReads.{ReadsNewest}
 use Rattle.td_store_load.specs.Loaded.{IsOfContent}
 use Rattle.td_store_load.proofs.entries.load_declared_on.Given as goal

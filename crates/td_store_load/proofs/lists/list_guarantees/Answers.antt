@@ -2,7 +2,7 @@ use Rattle.std.proofs.Common.{◌≡◌, Some, map, subst}
 use Rattle.std.proofs.lemmas.Result.{IfOk-weaker}
 use Rattle.sqlite.specs.Held.{state}
 use Rattle.sqlite.specs.State.{State}
-use Rattle.td_desk.specs.Content.{Content, account_in}
+use Rattle.td_model.specs.Content.{Content, account_in}
 use Rattle.td_store_rows.specs.Ranges.{rows_below}
 use Rattle.td_store_rows.specs.StoreTables.{HoldsContent}
 use Rattle.td_store_load.specs.Loaded.{IsOfTables}

@@ -3,7 +3,7 @@ use Rattle.std.proofs.lemmas.Result.{IfOk-weaker}
 use Rattle.sqlite.specs.Held.{state}
 use Rattle.sqlite.specs.State.{State}
 use Rattle.td_model.specs.Table.{listed}
-use Rattle.td_desk.specs.Content.{Content, account_in}
+use Rattle.td_model.specs.Content.{Content, account_in}
 use Rattle.td_table_model.specs.Gathering.{movements_by}
 use Rattle.td_store_rows.specs.MovementTable.{shown_of}
 use Rattle.td_store_rows.specs.Ranges.{rows_below}

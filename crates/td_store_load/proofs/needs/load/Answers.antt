@@ -5,7 +5,7 @@ use Rattle.td_model.specs.declared.holder_row.HolderRow.{HolderRow}
 use Rattle.td_model.specs.Account.{empty_account}
 use Rattle.td_acts.specs.Deciding.{IsLoaded}
 use Rattle.td_commands.specs.Commands.{need_said}
-use Rattle.td_desk.specs.Weighing.{kept_for}
+use Rattle.td_acts.specs.Weighing.{kept_for}
 use Rattle.td_store_rows.proofs.StoreReads.{anywhere}
 use Rattle.td_store_rows.specs.HolderTable.{IsTheHolder}
 use Rattle.typed_sql.proofs.Leaving.{if_both}

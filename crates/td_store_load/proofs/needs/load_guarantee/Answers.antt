@@ -1,7 +1,7 @@
 use Rattle.std.proofs.Common.{◌∙◌, ap, sym}
 use Rattle.std.specs.Prelude.{option_to_list}
 use Rattle.td_acts.specs.declared.rows.Loaded.{Loaded}
-use Rattle.td_desk.specs.Content.{account_in}
+use Rattle.td_model.specs.Content.{account_in}
 use Rattle.td_holder_memory.proofs.Loading.{guarantee_looked_up}
 use Rattle.td_store_load.proofs.needs.load_guarantee.Goals as goal
 

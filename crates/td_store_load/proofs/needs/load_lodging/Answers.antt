@@ -3,7 +3,7 @@ use Rattle.std.specs.Prelude.{option_to_list}
 use Rattle.sqlite.specs.Held.{state}
 use Rattle.sqlite.specs.State.{State, HasCleanDisk}
 use Rattle.td_acts.specs.declared.rows.Loaded.{Loaded}
-use Rattle.td_desk.specs.Content.{account_in}
+use Rattle.td_model.specs.Content.{account_in}
 use Rattle.td_holder_memory.proofs.Loading.{lodging_looked_up}
 use Rattle.td_store_rows.proofs.StoreReads.{reads_on}
 use Rattle.td_store_load.proofs.Reading.{held_after}

@@ -4,7 +4,7 @@ use Rattle.std.specs.Prelude.{option_to_list, filter_map, IfSome}
 use Rattle.td_movement.specs.declared.movement.Movement.{Movement}
 use Rattle.td_acts.specs.declared.rows.Loaded.{Loaded}
 use Rattle.td_model.specs.Account.{Account, movement_by_mrn}
-use Rattle.td_desk.specs.Content.{account_in}
+use Rattle.td_model.specs.Content.{account_in}
 use Rattle.td_holder_memory.proofs.Loading.{release_looked_up}
 use Rattle.td_store_load.specs.Needed.{terms_in}
 use Rattle.td_store_load.proofs.needs.load_release.Goals as goal

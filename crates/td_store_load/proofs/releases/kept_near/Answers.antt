@@ -3,7 +3,7 @@ use Rattle.std.specs.Prelude.{◌==◌, find}
 use Rattle.std.proofs.lemmas.Result.{IfOk-weaker}
 use Rattle.sqlite.specs.Held.{state}
 use Rattle.sqlite.specs.State.{State}
-use Rattle.td_desk.specs.Content.{Content}
+use Rattle.td_model.specs.Content.{Content}
 use Rattle.typed_sql.proofs.OnlyRead.{none_read, stays_nothing}
 use Rattle.td_store_rows.specs.KeptTable.{AreKeptBySerial}
 use Rattle.td_store_rows.specs.Places.{is_within}

@@ -10,7 +10,7 @@ use Rattle.td_store_rows.specs.LineTable.{line_row_of}
 use Rattle.td_movement.specs.declared.line.Line.{Line}
 use Rattle.td_store_load.specs.Loaded.{line_of}
 use Rattle.td_guarantee.specs.Terms.{without_codes}
-use Rattle.td_desk.specs.Content.{Content, account_in}
+use Rattle.td_model.specs.Content.{Content, account_in}
 use Rattle.td_table_model.specs.Gathering.{grn_by}
 use Rattle.td_store_rows.specs.declared.guarantees.stored.KeptGuarantee.{KeptGuarantee}
 use Rattle.td_store_load.specs.Needed.{AreKeptIn, AreTermsOf, terms_in}

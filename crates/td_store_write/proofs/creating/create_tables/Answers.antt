@@ -6,10 +6,9 @@ use Rattle.sqlite.specs.State.{State, HasCleanDisk, IsUnchanged, KeepsCounts, Sh
 use Rattle.sqlite.proofs.Callers.{survives_begin}
 use Rattle.sqlite.proofs.StateLemmas.{survives_then}
 use Rattle.sqlite_trees.specs.Tree.{Trees}
-use Rattle.td_desk.specs.Content.{empty_content}
-use Rattle.td_schema.specs.Tables.{IsEmptyOf}
+use Rattle.td_model.specs.Content.{empty_content}
+use Rattle.td_schema.specs.Tables.{IsEmptyOf, no_schema}
 use Rattle.td_schema.specs.Layouts.{desk_schema, newest_version}
-use Rattle.td_schema.specs.Tables.{no_schema}
 use Rattle.td_store_rows.specs.Columns.{meta_row}
 use Rattle.td_store_rows.specs.MetaTable.{TurnsMeta}
 use Rattle.td_store_rows.specs.StoreTables.{AreTreesOf}

@@ -5,8 +5,8 @@ use Rattle.td_acts.specs.Deciding.{IsLoaded}
 use Rattle.td_commands.specs.Commands.{need_said}
 use Rattle.td_desk.specs.Plain.{plain_content}
 use Rattle.keyed_rows.specs.Rows.{row_at}
-use Rattle.td_desk.specs.Weighing.{kept_for}
-use Rattle.td_desk.proofs.Kept.{found_covered}
+use Rattle.td_acts.specs.Weighing.{kept_for}
+use Rattle.td_model.proofs.Kept.{found_covered}
 use Rattle.td_desk.proofs.plain.PlainDeskStore.load.Goals as goal
 
 -- nobody owns the command

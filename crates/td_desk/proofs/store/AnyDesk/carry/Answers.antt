@@ -1,10 +1,10 @@
 use Rattle.std.proofs.Common.{◌≡◌, sym, ◌∙◌, ap, subst}
-use Rattle.td_acts.specs.declared.rows.Change.{Change}
+use Rattle.td_model.specs.declared.change.Change.{Change}
 use Rattle.td_acts.specs.declared.rows.Verdict.{Verdict}
 use Rattle.td_acts.specs.Deciding.{decision_on}
-use Rattle.td_desk.specs.Content.{Content, content_after}
-use Rattle.td_desk.specs.Weighing.{owner_account, Carries}
-use Rattle.td_desk.proofs.Carrying.{carries}
+use Rattle.td_model.specs.Content.{Content, content_after}
+use Rattle.td_acts.specs.Weighing.{owner_account, Carries}
+use Rattle.td_acts.proofs.Carrying.{carries}
 use Rattle.td_desk.proofs.store.AnyDesk.carry.Goals as goal
 
 pub returns-in-Nothing-clause-carried : goal.returns-in-Nothing-clause-carried

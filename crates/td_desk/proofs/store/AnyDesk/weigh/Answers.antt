@@ -2,8 +2,8 @@ use Rattle.std.proofs.Common.{◌≡◌, ℕ, Option, w64, sym, ◌∙◌, ap, r
 use Rattle.std.proofs.lemmas.Int.{to_z-of_z}
 use Rattle.td_acts.specs.Deciding.{IsLoaded}
 use Rattle.td_commands.specs.Commands.{owner_of, IsProper, Need, need_of}
-use Rattle.td_desk.specs.Content.{Content, IsSound}
-use Rattle.td_desk.specs.Weighing.{IsWeighed, kept_for, kept_of}
+use Rattle.td_model.specs.Content.{Content, IsSound}
+use Rattle.td_acts.specs.Weighing.{IsWeighed, kept_for, kept_of}
 use Rattle.td_desk.proofs.Weighed.{weighed_by}
 use Rattle.td_desk.proofs.store.AnyDesk.weigh.Goals as goal
 

@@ -1,7 +1,7 @@
 use Rattle.std.proofs.Common.{inr, subst, sym}
 use Rattle.sqlite.specs.Files.{file_state, image_of}
 use Rattle.td_store_rows.specs.StoreTables.{HoldsContent}
-use Rattle.td_desk.specs.Content.{empty_content}
+use Rattle.td_model.specs.Content.{empty_content}
 use Rattle.td_store_write.specs.Created.{MayLeaveEmpty}
 use Rattle.td_files.proofs.Opening.{blank_then, clean_before, found_there, unmade_for}
 use Rattle.td_files.proofs.desks.OneFile+V+V+Drive+Disk.make_desk.Goals as goal

@@ -1,6 +1,6 @@
 use Rattle.std.proofs.Common.{◌≡◌, ◌+◌, ◌++◌, ◌∷◌, [], ℕ, List, Some, length, sym, ◌∙◌, ap, subst, arith}
 use Rattle.td_base.specs.References.{serial_of}
-use Rattle.td_acts.proofs.Joined.{AllNumbered-append}
+use Rattle.td_model.proofs.Joined.{AllNumbered-append}
 use Rattle.td_holder_memory.specs.Places.{HaveSerials}
 use Rattle.td_holder_memory.proofs.amounts.Amounts.open.Goals as goal
 

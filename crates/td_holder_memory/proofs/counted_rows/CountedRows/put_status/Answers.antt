@@ -1,7 +1,7 @@
 use Rattle.std.proofs.Common.{◌≡◌, ◌<◌, ◌∙◌, length, get_or, ap, arith}
 use Rattle.std.proofs.lemmas.List.{get_or_default, length-map}
 use Rattle.td_guarantee.specs.Usage.{used_on}
-use Rattle.td_acts.specs.Changes.{moved}
+use Rattle.td_model.specs.Changes.{moved}
 use Rattle.td_holder_memory.proofs.InUse.{moved_kept, one_of}
 use Rattle.td_holder_memory.proofs.counted_rows.CountedRows.put_status.Goals as goal
 

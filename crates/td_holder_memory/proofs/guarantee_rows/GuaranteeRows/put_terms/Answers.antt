@@ -1,5 +1,5 @@
 use Rattle.std.proofs.Common.{refl}
-use Rattle.td_acts.specs.Changes.{with_terms}
+use Rattle.td_model.specs.Changes.{with_terms}
 use Rattle.td_holder_memory.proofs.BySerial.{placed_back}
 use Rattle.td_holder_memory.proofs.guarantee_rows.GuaranteeRows.put_terms.Goals as goal
 

@@ -2,7 +2,7 @@ use Rattle.std.proofs.Common.{◌≡◌, ◌++◌, List, length, take, drop, map
 use Rattle.std.proofs.Math.Seq.{take-append_seam}
 use Rattle.std.proofs.lemmas.List.{length-map}
 use Rattle.td_movement.specs.declared.movement.Movement.{Movement}
-use Rattle.td_acts.specs.Changes.{moved}
+use Rattle.td_model.specs.Changes.{moved}
 use Rattle.td_holder_memory.specs.Places.{AreIndexed}
 use Rattle.td_holder_memory.proofs.Indexed.{indexed_moved}
 use Rattle.td_holder_memory.proofs.movement_rows.MovementRows.put_status.Goals as goal

@@ -1,6 +1,6 @@
 use Rattle.std.proofs.Common.{rules, refl}
 use Rattle.sqlite.specs.Held.{state}
-use Rattle.td_desk.specs.Content.{empty_content}
+use Rattle.td_model.specs.Content.{empty_content}
 use Rattle.td_schema.specs.Tables.{IsEmptyOf, no_schema}
 use Rattle.td_store.proofs.Holding.{content_held}
 use Rattle.td_store.proofs.Leaving.{leaves_shown}

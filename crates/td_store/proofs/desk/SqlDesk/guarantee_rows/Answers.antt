@@ -1,6 +1,6 @@
 use Rattle.std.proofs.Common.{◌∙◌, ap, map}
 use Rattle.sqlite.specs.Held.{state}
-use Rattle.td_desk.specs.Content.{Content}
+use Rattle.td_model.specs.Content.{Content}
 use Rattle.td_store_load.proofs.Listing.{all_guarantees_behind, guarantees_are_listed}
 use Rattle.td_store_load.specs.Placed.{with_holder}
 use Rattle.td_store.specs.Kept.{content_in}

@@ -4,8 +4,8 @@ use Rattle.sqlite.specs.Held.{state}
 use Rattle.sqlite.specs.State.{HasCleanDisk, State}
 use Rattle.td_acts.specs.Deciding.{IsLoaded}
 use Rattle.td_commands.specs.Commands.{need_said}
-use Rattle.td_desk.specs.Content.{Content}
-use Rattle.td_desk.specs.Weighing.{kept_for}
+use Rattle.td_model.specs.Content.{Content}
+use Rattle.td_acts.specs.Weighing.{kept_for}
 use Rattle.td_store_rows.specs.StoreTables.{HoldsContent}
 use Rattle.typed_sql.specs.Outside.{Looks}
 use Rattle.td_store.specs.Kept.{IsDeskOf}

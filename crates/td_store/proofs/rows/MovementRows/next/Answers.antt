@@ -1,6 +1,6 @@
 use Rattle.std.proofs.Common.{ap}
 use Rattle.sqlite.specs.Held.{state}
-use Rattle.td_desk.specs.Content.{Content}
+use Rattle.td_model.specs.Content.{Content}
 use Rattle.td_store_load.specs.Placed.{movements_placed}
 use Rattle.td_store.specs.Kept.{content_in}
 use Rattle.td_store.proofs.Stepping.{IsStep, fails_so, gives_so, moves_on}

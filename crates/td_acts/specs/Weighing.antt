@@ -8,9 +8,9 @@ use Rattle.td_model.specs.Book.{account_of}
 use Rattle.td_commands.specs.Commands.{owner_of, IsProper}
 use Rattle.td_model.specs.Table.{said}
 use Rattle.td_model.specs.Machine.{is_accepted, book_after}
-use Rattle.td_acts.specs.Changes.{is_change}
+use Rattle.td_model.specs.Changes.{is_change}
 use Rattle.td_acts.specs.Deciding.{decision_on}
-use Rattle.td_desk.specs.Content.{Content, account_in, fresh, IsSound}
+use Rattle.td_model.specs.Content.{Content, account_in, fresh, IsSound}
 
 -- what the fresh book of a command's owner says; over a command that nobody owns there is nothing to say
 abbrev pub account_for : Option ℕ → Content → Account

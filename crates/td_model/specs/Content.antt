@@ -3,10 +3,10 @@
 -- The rules that a desk's rows keep.
 use Rattle.std.specs.Prelude.{ℕ, List, [], Option, Some, None}
 use Rattle.td_model.specs.declared.holder_row.HolderRow.{HolderRow}
-use Rattle.td_acts.specs.declared.rows.Change.{Change}
+use Rattle.td_model.specs.declared.change.Change.{Change}
 use Rattle.td_model.specs.Account.{Account, HolderRows, account_with, holder_key}
 use Rattle.td_model.specs.Book.{Book, fresh_book}
-use Rattle.td_acts.specs.Changes.{row_in, rows_after, rows_or_new}
+use Rattle.td_model.specs.Changes.{row_in, rows_after, rows_or_new}
 use Rattle.keyed_rows.specs.Rows.{row_at, put_row, Rises}
 use Rattle.std.specs.List.{AllByRecursion}
 use Rattle.td_base.specs.Codes.{IsCountry}

@@ -6,8 +6,8 @@ use Rattle.td_model.specs.Account.{HolderRows, IsAccountOf, account_with, holder
 use Rattle.td_model.specs.Book.{account_of}
 use Rattle.td_commands.specs.Commands.{owner_of}
 use Rattle.td_acts.proofs.Growing.{account_fresh_book}
-use Rattle.td_desk.specs.Content.{Content, account_in, rows_of, fresh}
-use Rattle.td_desk.specs.Weighing.{account_for, owner_account, kept_for, kept_of}
+use Rattle.td_model.specs.Content.{Content, account_in, rows_of, fresh}
+use Rattle.td_acts.specs.Weighing.{account_for, owner_account, kept_for, kept_of}
 use Rattle.keyed_rows.proofs.Putting.{row_at_has}
 
 number_with : (H : ℕ) (country : List ℕ) (o : Option HolderRows) → IfSome o (λ h. holder_key h ≡ H) → IfSome (account_with country o).holder (λ row. row.holder ≡ H)

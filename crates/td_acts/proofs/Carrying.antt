@@ -2,12 +2,12 @@
 use Rattle.std.proofs.Common.{◌≡◌, ◌≢◌, ℕ, Option, Some, None, refl, sym, ◌∙◌, ap, subst, arith}
 use Rattle.td_base.specs.Days.{moment_of}
 use Rattle.td_model.specs.declared.holder_row.HolderRow.{HolderRow}
-use Rattle.td_acts.specs.declared.rows.Change.{Change}
-use Rattle.td_acts.specs.declared.rows.Change.TheVariants as change
+use Rattle.td_model.specs.declared.change.Change.{Change}
+use Rattle.td_model.specs.declared.change.Change.TheVariants as change
 use Rattle.td_commands.specs.declared.command.Stamped.{Stamped}
 use Rattle.td_model.specs.Account.{Account, HolderRows, ReferencesDiffer, account_with, holder_key}
 use Rattle.td_model.specs.Book.{account_of}
-use Rattle.td_acts.specs.Changes.{account_after, row_in, rows_after, rows_or_new}
+use Rattle.td_model.specs.Changes.{account_after, row_in, rows_after, rows_or_new}
 use Rattle.td_commands.specs.Commands.{owner_of, IsProper}
 use Rattle.td_acts.specs.Deciding.{decision_on}
 use Rattle.td_acts.specs.Laws.{FollowsOn}
@@ -16,12 +16,12 @@ use Rattle.td_model.specs.Sound.{AreHolderRows}
 use Rattle.td_acts.proofs.AcceptedRows.{nobody_writes}
 use Rattle.td_acts.proofs.Following.{follows_on, row_after, nothing_without_row}
 use Rattle.td_acts.proofs.Growing.{account_said_after}
-use Rattle.td_desk.specs.Content.{Content, account_in, rows_of, fresh, content_after, content_after_row, IsSound}
+use Rattle.td_model.specs.Content.{Content, account_in, rows_of, fresh, content_after, content_after_row, IsSound}
 use Rattle.keyed_rows.specs.Rows.{put_row}
-use Rattle.td_desk.specs.Weighing.{account_for, owner_account, Carries}
-use Rattle.td_desk.proofs.Differing.{references_differ}
-use Rattle.td_desk.proofs.Fresh.{account_fresh}
-use Rattle.keyed_rows.proofs.Putting.{row_at_has, row_at-put_row_same, row_at-put_row_other, Rises-put_row, All-put_row, All-row_at}
+use Rattle.td_acts.specs.Weighing.{account_for, owner_account, Carries}
+use Rattle.td_model.proofs.Kept.{found_sound, references_differ}
+use Rattle.td_acts.proofs.Fresh.{account_fresh}
+use Rattle.keyed_rows.proofs.Putting.{row_at_has, row_at-put_row_same, row_at-put_row_other, Rises-put_row, All-put_row}
 
 -- what new content does to H's account, to all others and to the rules, where a change of H's account was to be made
 pub record HasEffect (H : ℕ) (rows : Content) (c : Change) (new : Content) : Type 0 where
@@ -79,7 +79,7 @@ carries_for H rows s own sound proper =
         → HasEffect H rows (decision_on (account_in H rows) s.at s.command).change (content_after (decision_on (account_in H rows) s.at s.command).change rows)
     by_row None none = effect_of_nothing H rows (decision_on (account_in H rows) s.at s.command).change (nothing_without_row (decision_on (account_in H rows) s.at s.command).change none) sound
     by_row (Some row) has =
-        let rules = All-row_at holder_key (AreHolderRows rows.country) H rows.holders sound.holders in
+        let rules = found_sound H rows sound in
         effect_of_put H rows (decision_on (account_in H rows) s.at s.command).change row has sound
         (follows_on rows.country H (rows_of H rows) s sound.country (row_at_has holder_key H rows.holders) rules own proper row has)
 

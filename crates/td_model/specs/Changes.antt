@@ -1,13 +1,14 @@
 -- What a change of one holder's rows does to them: these shapes stand for all commands.
-use Rattle.std.specs.Prelude.{List, [], ◌∷◌, ◌++◌, map, Option, Some, None, Bool, true, false, unwrap_or}
+use Rattle.std.specs.Prelude.{ℕ, List, [], ◌∷◌, ◌++◌, map, Option, Some, None, Bool, true, false, unwrap_or}
 use Rattle.std.specs.Option.{option_or}
 use Rattle.td_guarantee.specs.declared.guarantee.Guarantee.{Guarantee}
 use Rattle.td_movement.specs.declared.movement.Movement.{Movement}
+use Rattle.td_movement.specs.declared.state.State.{State}
 use Rattle.td_model.specs.declared.holder_row.HolderRow.{HolderRow}
-use Rattle.td_acts.specs.declared.rows.NewStatus.{NewStatus}
-use Rattle.td_acts.specs.declared.rows.Change.{Change}
-use Rattle.td_acts.specs.declared.rows.Change.TheVariants.{Nothing, Registered, Opened, Declared, Moved, TermsSet, CodeAdded, CodeRemoved}
-use Rattle.td_acts.specs.declared.rows.NewTerms.{NewTerms}
+use Rattle.td_model.specs.declared.change.NewStatus.{NewStatus}
+use Rattle.td_model.specs.declared.change.Change.{Change}
+use Rattle.td_model.specs.declared.change.Change.TheVariants.{Nothing, Registered, Opened, Declared, Moved, TermsSet, CodeAdded, CodeRemoved}
+use Rattle.td_model.specs.declared.change.NewTerms.{NewTerms}
 use Rattle.td_model.specs.Account.{Account, HolderRows, at_grn, at_mrn, coded, uncoded}
 
 -- there is something to write
@@ -31,6 +32,10 @@ row_in (Moved row status) = Some row
 row_in (TermsSet row terms) = Some row
 row_in (CodeAdded row grn code) = Some row
 row_in (CodeRemoved row grn code) = Some row
+
+-- nothing new of a guarantee's terms
+abbrev pub no_terms : List ℕ → NewTerms
+no_terms grn = record { grn = grn; reference = None; cover = None; ends = None }
 
 -- the guarantee with new terms
 abbrev pub with_terms : NewTerms → Guarantee → Guarantee
@@ -57,6 +62,10 @@ guarantees_after (Moved row status) guarantees = guarantees
 guarantees_after (TermsSet row terms) guarantees = map (guarantee_after (TermsSet row terms)) guarantees
 guarantees_after (CodeAdded row grn code) guarantees = map (guarantee_after (CodeAdded row grn code)) guarantees
 guarantees_after (CodeRemoved row grn code) guarantees = map (guarantee_after (CodeRemoved row grn code)) guarantees
+
+-- a state with which no day and no office come
+abbrev pub new_state : List ℕ → State → NewStatus
+new_state mrn state = record { mrn = mrn; state = state; limit = None; arrival = None; actual = None }
 
 -- the movement in a new state, with the days and the office that come with it
 abbrev pub with_status : NewStatus → Movement → Movement

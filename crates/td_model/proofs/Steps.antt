@@ -10,12 +10,12 @@ use Rattle.td_movement.specs.States.{is_counting}
 use Rattle.td_movement.specs.Status.{IsStatus}
 use Rattle.td_guarantee.specs.declared.guarantee.Guarantee.{Guarantee}
 use Rattle.td_guarantee.specs.Usage.{lines_on, movement_on, used_on}
-use Rattle.td_acts.specs.declared.rows.NewStatus.{NewStatus}
+use Rattle.td_model.specs.declared.change.NewStatus.{NewStatus}
 use Rattle.td_model.specs.Account.{movement_by_mrn}
-use Rattle.td_acts.specs.Changes.{with_status, moved}
+use Rattle.td_model.specs.Changes.{with_status, moved}
 use Rattle.td_model.specs.Sound.{AllNumbered, IsMovementRow, IsCovered}
-use Rattle.td_acts.proofs.ByKey.{behind_differ, first_differs, only_found}
-use Rattle.td_acts.proofs.Joined.{AllByRecursion-weaker}
+use Rattle.td_model.proofs.ByKey.{behind_differ, first_differs, only_found}
+use Rattle.td_model.proofs.Joined.{AllByRecursion-weaker}
 
 -- what is mapped to itself stays
 pub map-id : {X : Type 0} (xs : List X) → map (λ x. x) xs ≡ xs

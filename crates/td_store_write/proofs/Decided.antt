@@ -15,19 +15,19 @@ use Rattle.td_commands.specs.declared.said.Refusal.TheVariants.{NoHolder, NoMove
 use Rattle.td_commands.specs.Commands.{owner_of, IsProper}
 use Rattle.td_model.specs.declared.holder_row.HolderRow.{HolderRow}
 use Rattle.td_acts.specs.declared.rows.Verdict.{Verdict}
-use Rattle.td_acts.specs.declared.rows.Change.{Change}
-use Rattle.td_acts.specs.declared.rows.Change.TheVariants as change
+use Rattle.td_model.specs.declared.change.Change.{Change}
+use Rattle.td_model.specs.declared.change.Change.TheVariants as change
 use Rattle.td_model.specs.Account.{Account, HolderRows, guarantee_by_grn, holder_key, movement_by_mrn}
 use Rattle.td_model.specs.Machine.{is_accepted_at}
 use Rattle.td_acts.specs.Deciding.{change_of, change_in, decision_on}
 use Rattle.td_model.specs.Table.{stands}
 use Rattle.td_acts.proofs.Accepted.{IsFor, moved_facts, named_facts, passed}
 use Rattle.td_acts.proofs.AcceptedRows.{change_in_is_for, moment_is, nobody_writes}
-use Rattle.td_acts.proofs.EachMove.{arrived_from, cancelled_from, enquired_from, judged_from, released_from, written_off_from}
-use Rattle.td_desk.specs.Content.{Content, rows_of, account_in, content_after, IsSound}
-use Rattle.td_desk.specs.Weighing.{account_for, owner_account, IsDecision}
-use Rattle.td_desk.proofs.Carrying.{carries}
-use Rattle.td_desk.proofs.Fresh.{account_fresh}
+use Rattle.td_model.proofs.EachMove.{arrived_from, cancelled_from, enquired_from, judged_from, released_from, written_off_from}
+use Rattle.td_model.specs.Content.{Content, rows_of, account_in, content_after, IsSound}
+use Rattle.td_acts.specs.Weighing.{account_for, owner_account, IsDecision}
+use Rattle.td_acts.proofs.Carrying.{carries}
+use Rattle.td_acts.proofs.Fresh.{account_fresh}
 use Rattle.td_table_model.specs.Tables.{Tables, AreTablesOf}
 use Rattle.td_table_model.specs.Gathering.{content_of}
 use Rattle.td_table_model.specs.Changes.{tables_after, HaveSameRows, HasGuarantee, CanBeWritten, ComesByMove, FollowsMoves}

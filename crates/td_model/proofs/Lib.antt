@@ -1,0 +1,7 @@
+pub mod Joined
+pub mod ByKey
+pub mod Cover
+pub mod Steps
+pub mod EachMove
+pub mod Differing
+pub mod Kept
