@@ -8,13 +8,13 @@ ghost use Rattle.td_model.specs.Declaring.{has_contents, guarantee_refusal, firs
 ghost use Rattle.td_acts.specs.Deciding.{IsVerdictAt};
 
 use crate::finding::{find_entry, find_movement_by_lrn};
-use crate::rows::{Change, Loaded, Verdict};
+use crate::rows::{Loaded, Verdict};
 use crate::serials::next_mrn;
 use std::alloc::{AllocError, Global};
 use td_base::{AccessCode, Cents, Day, HolderNo, Lrn, Moment, Mrn, OfficeNo};
 use td_commands::{Answer, Command, Lines, Refusal, Said};
 use td_guarantee::{Guarantee, ended};
-use td_model::HolderRow;
+use td_model::{Change, HolderRow};
 use td_movement::{Line, Movement, MovementLines, State};
 
 /// A declaration (IE015) that a holder lodges.

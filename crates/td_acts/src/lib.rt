@@ -20,9 +20,9 @@ pub use laws::{
     fresh_book_says_its_account, keeps_rows_sound, nobody_writes, other_form_names_nothing,
     writes_what_is_accepted, writes_what_the_book_says,
 };
-pub use rows::{Change, Loaded, NewStatus, NewTerms, Verdict};
+pub use rows::{Loaded, Verdict};
 pub use td_commands::{
     Answer, Command, Lines, ListedGuarantees, ListedMovement, ListedMovements, Needs, Refusal,
     Said, Stamped, Subject, known, owner,
 };
-pub use td_model::HolderRow;
+pub use td_model::{Change, HolderRow, NewStatus, NewTerms};

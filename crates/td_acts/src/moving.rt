@@ -9,10 +9,10 @@ ghost use Rattle.td_acts.specs.Deciding.{IsVerdictAt};
 ghost use Rattle.td_model.specs.Table.{is_late, may_be_asked_after, on_movement};
 
 use crate::finding::find_movement_by_mrn;
-use crate::rows::{Change, Loaded, NewStatus, Verdict};
+use crate::rows::{Loaded, Verdict};
 use td_base::{Day, HolderNo, Moment, Mrn, OfficeNo};
 use td_commands::{Answer, Command, Refusal, Said};
-use td_model::HolderRow;
+use td_model::{Change, HolderRow, NewStatus};
 use td_movement::{Control, Ground, Move, Movement, State, may_enquire, step};
 
 /// A movement that moves, the row of its holder, and the state to which it moves.

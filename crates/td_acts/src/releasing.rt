@@ -5,10 +5,11 @@ ghost use Rattle.td_model.specs.Declaring.{cover_refusal, first_uncovered, is_li
 
 use crate::finding::find_entry;
 use crate::moving::find_moving;
-use crate::rows::{Loaded, NewStatus, Verdict};
+use crate::rows::{Loaded, Verdict};
 use td_base::{Cents, Day, Moment, Mrn};
 use td_commands::{Answer, Command, Refusal};
 use td_guarantee::{Guarantee, ended, fits};
+use td_model::NewStatus;
 use td_movement::{Line, Move};
 
 /// How many days after its release a movement's limit may be at most.

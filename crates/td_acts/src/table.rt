@@ -6,7 +6,7 @@ use crate::declaring::{Declaration, lodge};
 use crate::finding::{take_entry, take_movement};
 use crate::moving::{arrive, cancel, enquire, judge, write_off};
 use crate::releasing::release;
-use crate::rows::{Change, Loaded, Verdict};
+use crate::rows::{Loaded, Verdict};
 use crate::serials::next_grn;
 use crate::terms::{add_code, amend, remove_code, revoke};
 use crate::views::{
@@ -17,7 +17,7 @@ use std::mem::replace;
 use td_base::{AccessCode, Cover, Eori, HolderNo, Moment, Reference};
 use td_commands::{Answer, Command, Refusal, Said};
 use td_guarantee::{Codes, Guarantee};
-use td_model::HolderRow;
+use td_model::{Change, HolderRow};
 
 /// The verdict that `decide` gives, for a caller that keeps what was loaded: all of it is copied first. `AllocError`:
 /// want of memory.

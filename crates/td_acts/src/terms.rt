@@ -9,12 +9,12 @@ ghost use Rattle.td_model.specs.Table.{on_guarantee};
 ghost use Rattle.td_base.specs.Days.{day_of_moment};
 
 use crate::finding::find_entry;
-use crate::rows::{Change, Loaded, NewTerms, Verdict};
+use crate::rows::{Loaded, Verdict};
 use std::alloc::{AllocError, Global};
 use td_base::{AccessCode, Cents, Cover, Day, Grn, HolderNo, Moment, Reference};
 use td_commands::{Answer, Command, Refusal, Said};
 use td_guarantee::{Guarantee, MOST_CODES};
-use td_model::HolderRow;
+use td_model::{Change, HolderRow, NewTerms};
 
 /// How many days after its revocation a guarantee ends.
 const DAYS_TO_END: u32 = 16;

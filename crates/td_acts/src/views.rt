@@ -3,11 +3,11 @@
 ghost use Rattle.std.specs.Prelude.{◌≡◌};
 ghost use Rattle.td_model.specs.Table.{or_refuse};
 
-use crate::rows::{Change, Verdict};
+use crate::rows::Verdict;
 use td_base::Cents;
 use td_commands::{Answer, ListedGuarantees, ListedMovement, ListedMovements, Refusal, Said};
 use td_guarantee::Guarantee;
-use td_model::HolderRow;
+use td_model::{Change, HolderRow};
 use td_movement::Movement;
 
 /// The verdict on a view of a holder, of whom this is the row, if it is there.

@@ -8,8 +8,8 @@ use crate::changes::write_change;
 use sqlite::{Connection, Error};
 use sqlite_trees::store::Alter;
 use std::alloc::Global;
-use td_model::Change;
 use td_base::Country;
+use td_model::Change;
 use typed_sql::see_open;
 
 /// Carries a change that was decided on over the content of the tables, at an office of that country: all of it or,

@@ -18,9 +18,9 @@ use crate::lists::{insert_codes, insert_lines};
 use sqlite::{Error, Transaction};
 use sqlite_trees::store::Alter;
 use std::alloc::Global;
-use td_model::{Change, HolderRow, NewStatus, NewTerms};
 use td_base::{AccessCode, Cents, Country, Grn};
 use td_guarantee::Guarantee;
+use td_model::{Change, HolderRow, NewStatus, NewTerms};
 use td_movement::Movement;
 use td_store_rows::{
     StoredCode, delete_code, insert_code, insert_guarantee, insert_holder, insert_movement,

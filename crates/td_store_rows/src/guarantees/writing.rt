@@ -15,9 +15,9 @@ use crate::guarantees::texts::{ADD_USED, EMPTY_FIRST, INSERT, SET_TERMS, TAKE_US
 use sqlite::{Error, Transaction};
 use sqlite_trees::store::Alter;
 use sqlite_value::value::ValueRef;
-use td_model::NewTerms;
 use td_base::{Cents, HolderNo};
 use td_guarantee::Guarantee;
+use td_model::NewTerms;
 use td_schema::{amount_of, amount_or_null, cover_of, cover_or_null, day_or_null, number_of};
 
 // The columns of a guarantee's row with the amount in use.

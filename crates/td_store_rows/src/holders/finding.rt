@@ -12,8 +12,8 @@ use crate::holders::texts::BY_NUMBER;
 use sqlite::{Error, Transaction};
 use sqlite_trees::store::Alter;
 use std::alloc::Global;
-use td_model::HolderRow;
 use td_base::HolderNo;
+use td_model::HolderRow;
 use td_schema::holder_key;
 
 /// The holder with a number, if one is registered under it.

@@ -2,8 +2,8 @@
 use keyed_rows::Keyed;
 use sqlite::Row;
 use std::alloc::Global;
-use td_commands::ListedMovement;
 use td_base::{Day, HolderNo, Mrn};
+use td_commands::ListedMovement;
 use td_movement::{Movement, MovementLines, State};
 use td_schema::{
     day_at, holder_at, lrn_at, mrn_at, office_at, optional_day_at, optional_office_at, serial_at,

@@ -13,8 +13,8 @@ use crate::movements::texts::{INSERT, SET_STATUS};
 use sqlite::{Error, Transaction};
 use sqlite_trees::store::Alter;
 use sqlite_value::value::ValueRef;
-use td_model::NewStatus;
 use td_base::HolderNo;
+use td_model::NewStatus;
 use td_movement::Movement;
 use td_schema::{day_of, day_or_null, number_of, office_or_null};
 
