@@ -6,7 +6,8 @@ use Rattle.sqlite.specs.Files.{image_of}
 use Rattle.sqlite_disk.specs.declared.Disk.{Ghosts}
 use Rattle.td_base.specs.Codes.{IsCountry}
 use Rattle.td_commands.specs.declared.command.Command.{Command}
-use Rattle.td_model.specs.Content.{IsSound, empty_content}
+use Rattle.td_model.proofs.Kept.{empty_sound}
+use Rattle.td_model.specs.Content.{IsSound}
 use Rattle.td_desk.specs.View.{DeskView}
 use Rattle.td_desk.specs.declared.plain.PlainDesk.{PlainDesk}
 use Rattle.td_files.specs.Found.{FileHeld, FileSeen, over_file}
@@ -49,8 +50,7 @@ use Rattle.td_cli.proofs.WorkTold.{IsWorkTold, after_told, batch_told, headline,
 -- a desk in memory is ready
 empty_ready : (country : List ℕ) (d : PlainDesk) → IsCountry country → BeginsEmpty country d → IsReady in_memory d
 empty_ready country d form empty clean =
-    let sound : IsSound (empty_content country) = record { country = form; order = tt; holders = tt } in
-    (tt, subst IsSound (sym empty) sound)
+    (tt, subst IsSound (sym empty) (empty_sound country form))
 
 module _ {End : Type 0} (did said : (D : Type 0) → DeskView D → D → D → End → Type 0)
     (says : (D : Type 0) (view : DeskView D) (opened left : D) (end : End) → IsReady view opened → did D view opened left end → said D view opened left end) where

@@ -1,10 +1,8 @@
 -- The work of each job is private, and covered, where it was done at a desk that was ready.
 use Rattle.std.proofs.Common.{◌≡◌, ◌∙◌, ℕ, ℤ, List, [], ◌∷◌, map, Option, None, Some, Result, Ok, Err, refl, sym, ap, subst, inl, inr}
 use Rattle.std.specs.Prelude.{IfSome}
-use Rattle.std.specs.List.{FoldsTo}
 use Rattle.std.specs.declared.io.Error.{Error}
 use Rattle.http_wire.specs.declared.stream.StreamEnd.{StreamEnd}
-use Rattle.keyed_rows.proofs.Putting.{All-row_at}
 use Rattle.td_batch.specs.Laws.{stamped_rows}
 use Rattle.td_batch.specs.Runs.{IsBatchDone, IsRunOf, outcomes_of}
 use Rattle.td_batch.specs.declared.running.BatchRun.{BatchRun}
@@ -27,11 +25,13 @@ use Rattle.td_journal_jobs.proofs.Followed.{followed_ready}
 use Rattle.td_journal_jobs.specs.Following.{DoesAfter}
 use Rattle.td_journal_lines.specs.Lines.{Numbered}
 use Rattle.td_machine.specs.Machine.{Around}
-use Rattle.td_model.specs.Account.{HolderRows, account_with, holder_key}
+use Rattle.td_model.specs.Account.{HolderRows, account_with}
 use Rattle.td_model.specs.Book.{Book, fresh_book}
 use Rattle.td_model.specs.Sound.{AreHolderRows}
+use Rattle.td_model.proofs.Kept.{found_sound}
 use Rattle.td_replay.specs.Following.{AreToldAgain, RowFails}
-use Rattle.td_replay.specs.Replays.{IsDoneAt, IsEachDone, IsReplayOf, stamped_of}
+use Rattle.td_replay.specs.Replays.{IsDoneAt, IsReplayOf, stamped_of}
+use Rattle.td_replay.proofs.Rebuilding.{clean_before}
 use Rattle.td_replay.specs.declared.following.FollowFault.{FollowFault}
 use Rattle.td_replay.specs.declared.following.FollowFault.TheVariants.{BadRow, Misplaced, Differs, Unread, Failed}
 use Rattle.td_replay.specs.declared.replaying.ReplayRun.{ReplayRun}
@@ -55,7 +55,7 @@ covered_with country None rules = tt
 covered_with country (Some h) rules = rules.cover
 
 covered_in : (c : Content) (H : ℕ) → IsSound c → AreCovered (account_in H c)
-covered_in c H sound = covered_with c.country (rows_of H c) (All-row_at holder_key (AreHolderRows c.country) H c.holders sound.holders)
+covered_in c H sound = covered_with c.country (rows_of H c) (found_sound H c sound)
 
 -- so the work keeps the headline
 pub headline : (work : Work) → IsWorkTold work → KeepsHeadline work
@@ -179,15 +179,11 @@ module _ {D : Type 0} (view : DeskView D) where
   batch_told at commands r old new (inl nothing) = none_ran_told old new nothing.0
   batch_told at commands r old new (inr ran) = ran_told at commands r old new ran
 
-  each_clean : (each : List (Stamped × Outcome)) (old new : D) → FoldsTo (IsEachDone view) old each new → view.is_clean new → view.is_clean old
-  each_clean [] old new steps clean = subst view.is_clean (sym steps) clean
-  each_clean (e ∷ each) old new steps clean = steps.1.clean (each_clean each steps.0 new steps.2 clean)
-
   pub replay_told : (numbered : List Numbered) (run : ReplayRun) (old new : D) → (replayed : IsReplayOf view numbered run old new)
       → Shows old new (part_replayed view numbered run old new replayed)
   replay_told numbered run old new (inl not) = unasked_told old new not.desk
   replay_told numbered run old new (inr done) = λ ready clean.
-      let is = ready (each_clean _ old new done.steps clean) in record {
+      let is = ready (clean_before view _ old new done.steps clean) in record {
         sound = is.1;
         told = λ books tied. let (c, ran, same) = done.private clean is.0 is.1 books tied in (c, rows_told _ books _ _ c ran);
       }

@@ -2,4 +2,4 @@ mod FirstLines
 mod Followed
 mod Counting
 mod RowsDone
-mod Rebuilding
+pub mod Rebuilding

@@ -57,9 +57,10 @@ plain_replies (words ∷ said) plain =
 -- ---- a replay of all rows
 
 module _ {D : Type 0} (view : DeskView D) where
-  clean_back : (each : List (Stamped × Outcome)) (old new : D) → FoldsTo (IsEachDone view) old each new → view.is_clean new → view.is_clean old
-  clean_back [] old new steps clean = subst (λ (d : D). view.is_clean d) (sym steps) clean
-  clean_back (e ∷ each) old new (mid, first, more) clean = first.clean (clean_back each mid new more clean)
+  -- a desk that is clean behind rows was so before them
+  pub clean_before : (each : List (Stamped × Outcome)) (old new : D) → FoldsTo (IsEachDone view) old each new → view.is_clean new → view.is_clean old
+  clean_before [] old new steps clean = subst (λ (d : D). view.is_clean d) (sym steps) clean
+  clean_before (e ∷ each) old new (mid, first, more) clean = first.clean (clean_before each mid new more clean)
 
   -- all rows were told
   pub record AreAllDone (begin : Content) (rows : List Numbered) (r : ReplayRun) (old new : D) : Type 0 where
@@ -102,7 +103,7 @@ module _ {D : Type 0} (view : DeskView D) where
   rebuilt [] (words ∷ said) begin end old new size sound is done steps clean = absurd (omega (arith, size))
   rebuilt (r ∷ rows) [] begin end old new size sound is done steps clean = absurd (omega (arith, size))
   rebuilt (r ∷ rows) (words ∷ said) begin end old new size sound is (next, first, others) (mid, step, more) clean =
-      let performs = (step.performs (clean_back (zip (map stamped_of rows) (words_said said)) mid new more clean)).2 (subst IsSound (sym is) sound) in
+      let performs = (step.performs (clean_before (zip (map stamped_of rows) (words_said said)) mid new more clean)).2 (subst IsSound (sym is) sound) in
       let told : words ≡ said_over begin r.row.stamped = performs.0 ∙ ap (λ (c : Content). said_over c r.row.stamped) is in
       let carries : Carries begin r.row.stamped (view.content mid) = subst (λ (c : Content). Carries c r.row.stamped (view.content mid)) is performs.1 in
       let rest = rebuilt rows said next end mid new (omega (arith, size)) first.carried.sound (one_left begin next (view.content mid) r.row first carries) others more clean in (
@@ -144,7 +145,7 @@ module _ {D : Type 0} (view : DeskView D) where
   told_all [] (words ∷ said) old new size sound steps clean = absurd (omega (arith, size))
   told_all (r ∷ rows) [] old new size sound steps clean = absurd (omega (arith, size))
   told_all (r ∷ rows) (words ∷ said) old new size sound (mid, step, more) clean =
-      let performs = (step.performs (clean_back (zip (map stamped_of rows) (words_said said)) mid new more clean)).2 sound in (
+      let performs = (step.performs (clean_before (zip (map stamped_of rows) (words_said said)) mid new more clean)).2 sound in (
         view.content mid,
         map said_body said,
         ap (λ (t : List ℕ). t ∷ map said_body said) (ap said_body performs.0),
