@@ -22,9 +22,9 @@ use Rattle.td_schema.specs.declared.layout.Layout.{Layout}
 use Rattle.td_schema.specs.Tables.{IsEmptyOf, no_schema}
 use Rattle.td_store_rows.specs.StoreTables.{AreTreesOf, HoldsContent}
 use Rattle.typed_sql.specs.Outside.{CrashLeavesShown}
-use Rattle.td_store.specs.Opened.{AreDamaged, IsOfAnother, IsOfEarlier, IsOfUnknownVersion, IsStoreSchema, TellsDatabase}
-use Rattle.td_store.specs.declared.refused.OpenFault.{OpenFault}
-use Rattle.td_store.specs.declared.refused.OpenFault.TheVariants.{UnknownVersion, NeedsMigration, OtherCountry, Damaged, Store, NoMemory}
+use Rattle.td_store_check.specs.Opened.{AreDamaged, IsOfAnother, IsOfEarlier, IsOfUnknownVersion, IsStoreSchema, TellsDatabase}
+use Rattle.td_store_check.specs.declared.fault.OpenFault.{OpenFault}
+use Rattle.td_store_check.specs.declared.fault.OpenFault.TheVariants.{UnknownVersion, NeedsMigration, OtherCountry, Damaged, Store, NoMemory}
 use Rattle.td_migrate.specs.Upgraded.{LeavesReached, LeavesShown, LeavesWithFault, TellsUpgrade}
 use Rattle.td_migrate.specs.declared.fault.MigrateFault.{MigrateFault}
 use Rattle.td_files.specs.Upgraded.{ShowsUpgrade}

@@ -20,9 +20,9 @@ use Rattle.td_store_rows.specs.StoreTables.{AreTreesOf, HoldsContent}
 pub use Rattle.td_store.specs.Kept.{content_in}
 use Rattle.typed_sql.specs.Outside.{CrashLeavesShown}
 use Rattle.td_store.specs.Kept.{sql_view}
-use Rattle.td_store.specs.Opened.{TellsDatabase}
-use Rattle.td_store.specs.declared.refused.OpenFault.{OpenFault}
-use Rattle.td_store.specs.declared.refused.OpenFault.TheVariants.{Store, NoMemory}
+use Rattle.td_store_check.specs.Opened.{TellsDatabase}
+use Rattle.td_store_check.specs.declared.fault.OpenFault.{OpenFault}
+use Rattle.td_store_check.specs.declared.fault.OpenFault.TheVariants.{Store, NoMemory}
 use Rattle.td_machine.specs.Drive.{KnownDrive}
 use Rattle.td_files.specs.declared.desks.DeskFault.{DeskFault}
 use Rattle.td_files.specs.declared.desks.DeskFault.TheVariants.{File, Refused}

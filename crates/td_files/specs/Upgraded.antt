@@ -5,8 +5,8 @@ use Rattle.sqlite_wal.specs.Recovery.{Image}
 use Rattle.sqlite.specs.Effect.{Database}
 use Rattle.sqlite.specs.Files.{file_state}
 use Rattle.typed_sql.specs.Outside.{CrashLeavesShown}
-use Rattle.td_store.specs.declared.refused.OpenFault.{OpenFault}
-use Rattle.td_store.specs.declared.refused.OpenFault.TheVariants as open_fault
+use Rattle.td_store_check.specs.declared.fault.OpenFault.{OpenFault}
+use Rattle.td_store_check.specs.declared.fault.OpenFault.TheVariants as open_fault
 use Rattle.td_migrate.specs.Upgraded.{LeavesReached, LeavesWithFault, TellsUpgrade}
 use Rattle.td_migrate.specs.declared.fault.MigrateFault.{MigrateFault}
 use Rattle.td_migrate.specs.declared.fault.MigrateFault.TheVariants.{Damaged, NoMemory, Store, UnknownVersion}

@@ -7,7 +7,7 @@ ghost use Rattle.td_store_rows.specs.StoreReads.{HasNewestTables};
 ghost use Rattle.typed_sql.specs.Outside.{CrashLeavesShown, Looks};
 ghost use Rattle.td_files.specs.Extracted.{IsExtracted, IsPartMade};
 ghost use Rattle.td_files.specs.Found.{IsStoreOrMemory, file_at};
-ghost use Rattle.td_store.specs.declared.refused.OpenFault.TheVariants as open_fault;
+ghost use Rattle.td_store_check.specs.declared.fault.OpenFault.TheVariants as open_fault;
 
 use crate::desks::DeskFault;
 use crate::files::{DeskFile, OneFile};

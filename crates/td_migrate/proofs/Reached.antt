@@ -9,7 +9,7 @@ use Rattle.td_schema.specs.Layouts.{schema_of, version_of}
 use Rattle.td_schema.specs.declared.layout.Layout.{Layout}
 use Rattle.td_store_rows.specs.Columns.{meta_row}
 use Rattle.td_store_rows.specs.StoreTables.{HoldSoundContent, country_in, tables_in}
-use Rattle.td_store.specs.Opened.{IsEarlier, MaySay, TellsAudit}
+use Rattle.td_store_check.specs.Opened.{IsEarlier, MaySay, TellsAudit}
 use Rattle.td_migrate.specs.Upgraded.{HeldVersion, LeavesReached, LeavesShown, LeavesStep, MayLeaveStep, MayLeaveUpgraded, WasGrown}
 
 -- the content of a file of that version whose rows keep the rules

@@ -4,7 +4,7 @@ ghost use Rattle.td_migrate.specs.declared.fault.MigrateFault.TheVariants as mig
 ghost use Rattle.td_migrate.specs.Upgraded.{IsKindOf, SaysNothing};
 
 use sqlite::{Error as SqlError, ErrorCode};
-use td_store::{OpenFault, Rule};
+use td_store_check::{OpenFault, Rule};
 use thiserror::Error;
 
 /// Why a file isn't brought to the newest version. Its line is what the program prints.

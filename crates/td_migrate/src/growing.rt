@@ -4,7 +4,7 @@ ghost use Rattle.sqlite.specs.Held.{state};
 ghost use Rattle.sqlite.specs.State.{HasCleanDisk, Survives};
 ghost use Rattle.typed_sql.specs.Reading.{IsInside, StaysInside};
 ghost use Rattle.td_migrate.specs.Grown.{GrowsFrom, MayLeaveGrown};
-ghost use Rattle.td_store.specs.Opened.{IsEarlier};
+ghost use Rattle.td_store_check.specs.Opened.{IsEarlier};
 ghost use Rattle.td_migrate.specs.Moved.{BecomesSecond, MovesTo2};
 
 use crate::filling::fill;

@@ -3,7 +3,7 @@ ghost use Rattle.std.specs.Prelude.{◌≡◌, false, IsTrue, IfErr, OnErr, OnOk
 ghost use Rattle.sqlite.specs.Held.{state};
 ghost use Rattle.sqlite.specs.State.{HasCleanDisk, Survives};
 ghost use Rattle.typed_sql.specs.Outside.{CrashLeavesShown, Looks};
-ghost use Rattle.td_store.specs.Opened.{IsEarlier, IsOfEarlier, MaySay};
+ghost use Rattle.td_store_check.specs.Opened.{IsEarlier, IsOfEarlier, MaySay};
 ghost use Rattle.td_table_model.specs.Tables.{first_version, version_with_amounts};
 ghost use Rattle.td_migrate.specs.Upgraded.{HeldVersion, LeavesReached, LeavesShown, LeavesWithFault, MayLeaveStep, MayLeaveUpgraded, TellsStep, SaysNothing, TellsUpgrade, TellsVersion, WasGrown};
 
@@ -13,7 +13,7 @@ use sqlite::Connection;
 use sqlite_trees::store::Alter;
 use std::alloc::Global;
 use td_schema::{FIRST_VERSION, NEWEST_VERSION, VERSION_WITH_AMOUNTS};
-use td_store::{audit, file_version};
+use td_store_check::{audit, file_version};
 use typed_sql::see_settled;
 
 /// The version of the tables in a file, from 1 to the newest, as the office's own row says it. `UnknownVersion`: there is no table

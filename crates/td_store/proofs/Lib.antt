@@ -1,10 +1,8 @@
-mod Begins
 mod Named
 mod Acknowledged
 mod Calls
 pub mod Holding
 mod Listed
-mod Judged
 mod Leaving
 mod Refusing
 mod Visiting

@@ -19,12 +19,12 @@ use Rattle.td_store_rows.specs.StoreTables.{AreTreesOf, HasOfficeRow, HoldsConte
 use Rattle.td_store_rows.proofs.Turned.{listed_there}
 use Rattle.td_store_audit_rows.specs.Laws.{ContentKeepsRules}
 use Rattle.td_store_audit_rows.specs.Untyped.{KeepsUntyped}
-use Rattle.td_store.proofs.Begins.{store_begins}
+use Rattle.td_store_check.proofs.Begins.{store_begins}
 use Rattle.td_store.proofs.Holding.{layout_back, trees_hold}
 use Rattle.td_store.specs.Kept.{content_in}
-use Rattle.td_store.specs.declared.refused.OpenFault.{OpenFault}
-use Rattle.td_store.specs.declared.refused.OpenFault.TheVariants.{UnknownVersion, NeedsMigration, OtherCountry, Damaged, Store, NoMemory}
-use Rattle.td_store.specs.Opened.{AreDamaged, AreOfDesk, IsEarlier, IsOfAnother, IsOfEarlier, IsOfKnownVersion, IsOfUnknownVersion, IsStoreSchema, LacksMeta, TellsDatabase, TellsTables}
+use Rattle.td_store_check.specs.declared.fault.OpenFault.{OpenFault}
+use Rattle.td_store_check.specs.declared.fault.OpenFault.TheVariants.{UnknownVersion, NeedsMigration, OtherCountry, Damaged, Store, NoMemory}
+use Rattle.td_store_check.specs.Opened.{AreDamaged, AreOfDesk, IsEarlier, IsOfAnother, IsOfEarlier, IsOfKnownVersion, IsOfUnknownVersion, IsStoreSchema, LacksMeta, TellsDatabase, TellsTables}
 
 -- where there is none, it has a store's tables, and they are a desk's
 of_desk : (country : List ℕ) (db : Database) → TellsDatabase country db None

@@ -1,6 +1,5 @@
 pub mod Kept
 pub mod Laws
-pub mod Opened
 pub mod Looked
 pub mod Visits
 pub mod Standing

@@ -8,16 +8,16 @@ ghost use Rattle.td_schema.specs.Layouts.{desk_schema};
 ghost use Rattle.td_schema.specs.Tables.{IsEmptyOf, no_schema};
 ghost use Rattle.td_store_rows.specs.StoreTables.{HoldsContent};
 ghost use Rattle.td_store_write.specs.Created.{MayLeaveEmpty};
-ghost use Rattle.td_store.specs.declared.refused.OpenFault.TheVariants as fault;
+ghost use Rattle.td_store_check.specs.declared.fault.OpenFault.TheVariants as fault;
 ghost use Rattle.typed_sql.specs.Outside.{CrashLeavesShown};
 ghost use Rattle.td_store.specs.Kept.{content_in, sql_view};
 
 use crate::desk::SqlDesk;
-use crate::faults::open_fault_of;
-use crate::refused::{OpenFault, Refused};
+use crate::refused::Refused;
 use sqlite::Connection;
 use sqlite_trees::store::Alter;
 use td_base::Country;
+use td_store_check::{OpenFault, open_fault_of};
 use td_store_write::create_tables;
 use typed_sql::see_settled;
 

@@ -4,9 +4,7 @@ ghost use Rattle.sqlite.specs.Held.{state};
 ghost use Rattle.sqlite.specs.State.{HasCleanDisk};
 ghost use Rattle.typed_sql.specs.Outside.{CrashLeavesShown, Looks};
 ghost use Rattle.td_desk.specs.declared.fault.Fault.TheVariants as fault;
-ghost use Rattle.td_store.specs.declared.refused.OpenFault.TheVariants as open_fault;
 
-use crate::refused::OpenFault;
 use sqlite::{Connection, Error, ErrorCode};
 use sqlite_trees::store::Alter;
 use td_desk::Fault;
@@ -49,16 +47,4 @@ pub(crate) fn told<S: Alter, T>(
     };
     see_settled(conn);
     told
-}
-
-/// Why a desk isn't made or opened, by the error that the database answered: `NoMemory` for want of memory, else `Store`.
-pub(crate) fn open_fault_of(error: &Error) -> OpenFault
-    ensures kinds { (result ≡ open_fault.Store) ⊎ (result ≡ open_fault.NoMemory) }
-    ensures memory { error.now ≡ Error.SqliteFailure ErrorCode.OutOfMemory → result ≡ open_fault.NoMemory }
-    ensures other { error.now ≢ Error.SqliteFailure ErrorCode.OutOfMemory → result ≡ open_fault.Store }
-{
-    match error {
-        Error::SqliteFailure(ErrorCode::OutOfMemory) => OpenFault::NoMemory,
-        _ => OpenFault::Store,
-    }
 }

@@ -8,18 +8,18 @@ ghost use Rattle.td_table_model.specs.declared.rule.Rule.{Rule};
 ghost use Rattle.td_schema.specs.Layouts.{newest_version, schema_of};
 ghost use Rattle.td_schema.specs.declared.layout.Layout.{Layout};
 ghost use Rattle.td_store_rows.specs.StoreTables.{HasOfficeRow, HoldsContent};
-ghost use Rattle.td_store.specs.declared.refused.OpenFault.TheVariants as fault;
+ghost use Rattle.td_store_check.specs.declared.fault.OpenFault.TheVariants as fault;
 ghost use Rattle.typed_sql.specs.Outside.{CrashLeavesShown};
 ghost use Rattle.td_store.specs.Kept.{content_in, sql_view};
-ghost use Rattle.td_store.specs.Opened.{AreDamaged, IsOfAnother, IsOfEarlier, IsOfUnknownVersion, IsStoreSchema, LacksMeta};
+ghost use Rattle.td_store_check.specs.Opened.{AreDamaged, IsOfAnother, IsOfEarlier, IsOfUnknownVersion, IsStoreSchema, LacksMeta};
 
 use crate::desk::SqlDesk;
-use crate::judging::refusal;
 use crate::refused::Refused;
 use sqlite::Connection;
 use sqlite_trees::store::Alter;
 use std::alloc::Global;
 use td_base::Country;
+use td_store_check::refusal;
 use typed_sql::see_settled;
 
 impl<S: Alter> SqlDesk<S> {

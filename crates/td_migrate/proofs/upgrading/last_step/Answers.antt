@@ -3,7 +3,7 @@ use Rattle.sqlite.specs.Held.{state}
 use Rattle.sqlite.specs.State.{State}
 use Rattle.sqlite.proofs.StateLemmas.{survives_weaker}
 use Rattle.td_table_model.specs.Tables.{version_with_amounts}
-use Rattle.td_store.specs.Opened.{IsEarlier}
+use Rattle.td_store_check.specs.Opened.{IsEarlier}
 use Rattle.td_migrate.specs.Upgraded.{MayLeaveStep, MayLeaveUpgraded}
 use Rattle.td_migrate.proofs.Reached.{reached_one, step_leaves}
 use Rattle.td_migrate.proofs.Stepping.{upgraded_from_second}

@@ -2,7 +2,7 @@ use Rattle.std.proofs.Common.{◌≡◌, arith, subst}
 use Rattle.sqlite.specs.Held.{state}
 use Rattle.sqlite.specs.State.{State}
 use Rattle.td_table_model.specs.Tables.{first_version, version_with_amounts}
-use Rattle.td_store.specs.Opened.{MaySay}
+use Rattle.td_store_check.specs.Opened.{MaySay}
 use Rattle.td_migrate.proofs.upgrading.steps_from.Goals as goal
 
 pub two_steps-requires-clause-says : goal.two_steps-requires-clause-says

@@ -4,7 +4,7 @@ use Rattle.sqlite.specs.Held.{state}
 use Rattle.sqlite.specs.State.{HasCleanDisk, State, Survives}
 use Rattle.sqlite.proofs.StateLemmas.{survives_then, survives_weaker}
 use Rattle.td_table_model.specs.Tables.{first_version, version_with_amounts}
-use Rattle.td_store.specs.Opened.{IsEarlier}
+use Rattle.td_store_check.specs.Opened.{IsEarlier}
 use Rattle.typed_sql.specs.Outside.{CrashLeavesShown}
 use Rattle.td_schema.specs.declared.layout.Layout.TheVariants.{Grown2}
 use Rattle.td_migrate.specs.Upgraded.{LeavesReached, LeavesShown, MayLeaveStep, MayLeaveUpgraded, WasGrown}

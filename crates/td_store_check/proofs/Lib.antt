@@ -1,0 +1,2 @@
+pub mod Begins
+mod Judged
