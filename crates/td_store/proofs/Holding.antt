@@ -27,7 +27,8 @@ use Rattle.td_store_rows.proofs.Holding.{holds_still}
 use Rattle.td_store_write.specs.Carried.{CarriesChange, IsDecidedOver}
 use Rattle.td_store_write.proofs.After.{after_country}
 use Rattle.td_store_rows.specs.StoreReads.{HasNewestTables}
-use Rattle.td_store.specs.Kept.{IsDeskOf, content_in, layout_by, layout_in, list_table}
+use Rattle.td_store.specs.Kept.{IsDeskOf, content_in, layout_in, list_table}
+use Rattle.td_store_check.specs.Named.{layout_by}
 
 -- a name is listed where a table has it
 listed_as : (name : List ℕ) (rows : List Row) (tables : List Table) → AllZip IsTableRow rows tables

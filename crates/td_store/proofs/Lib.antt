@@ -1,4 +1,3 @@
-mod Named
 mod Acknowledged
 mod Calls
 pub mod Holding

@@ -15,23 +15,13 @@ use Rattle.td_model.specs.Content.{Content}
 use Rattle.td_desk.specs.View.{DeskView}
 use Rattle.td_table_model.specs.Gathering.{content_of}
 use Rattle.td_schema.specs.declared.layout.Layout.{Layout}
-use Rattle.td_schema.specs.declared.layout.Layout.TheVariants.{Grown2, Grown3From1, Grown3From2, Made1, Made2, Made3}
+use Rattle.td_store_check.specs.Named.{layout_by}
 use Rattle.typed_sql.specs.Values.{text_in}
 use Rattle.td_store_rows.specs.StoreTables.{AreTreesOf, HoldsContent, tables_in}
 
 -- the trees list a table of this name
 abbrev pub list_table : List ℕ → Trees → Bool
 list_table name trees = list_any (λ row. bytes_eq (text_in (column row 2)) name) (filter is_table_row (trees catalog_tree))
-
--- the layout of a store's file, by whether it has the guarantees of version 1 and those from version 2 on, and by whether it has
--- the lines below version 3 and those from version 3 on
-abbrev pub layout_by : Bool → Bool → Bool → Bool → Layout
-layout_by true true few true = Grown3From1
-layout_by true true few false = Grown2
-layout_by true false few more = Made1
-layout_by false kept true true = Grown3From2
-layout_by false kept true false = Made2
-layout_by false kept false more = Made3
 
 abbrev pub layout_in : Trees → Layout
 layout_in trees =

@@ -1,2 +1,3 @@
 pub mod Begins
 mod Judged
+mod Named

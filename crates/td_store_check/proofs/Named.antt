@@ -6,7 +6,7 @@ use Rattle.sqlite_schema.specs.declared.schema.Schema.{Schema}
 use Rattle.td_schema.specs.Layouts.{schema_of}
 use Rattle.td_schema.specs.declared.layout.Layout.{Layout}
 use Rattle.td_schema.specs.declared.layout.Layout.TheVariants.{Made1, Made2, Grown2, Made3, Grown3From2, Grown3From1}
-use Rattle.td_store.specs.Kept.{layout_by}
+use Rattle.td_store_check.specs.Named.{layout_by}
 
 -- there is a table of this name
 abbrev pub has_named : List ℕ → Schema → Bool
