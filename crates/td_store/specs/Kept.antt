@@ -1,5 +1,5 @@
 -- What a desk over a store's file keeps, and what contracts see of it.
-use Rattle.std.specs.Prelude.{◌≡◌, refl, ℕ, Bool, true, false, List, IsTrue, codes, filter}
+use Rattle.std.specs.Prelude.{◌≡◌, refl, ℕ, Bool, List, IsTrue, codes, filter}
 use Rattle.std.proofs.Common.{inl}
 use Rattle.std.proofs.Math.Nat.{le_refl}
 use Rattle.std.specs.List.{list_any}
