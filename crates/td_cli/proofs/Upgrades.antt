@@ -20,7 +20,7 @@ module _ {S : Type 0} {disk : Ghosts S} (country : List ℕ) (left opened : File
   same_trees = desk.found.holds (file_state left).now.trees goes.holds
 
   begins : (db : Database) (version : ℕ) → TellsUpgrade db (file_state left) (Ok version) → HeldContent db (content_in (file_state opened).now.trees)
-  begins db version (newest, inl (as_was, says)) =
+  begins db version (newest, inl (as_was, tables, says)) =
       inr (subst (AreTreesOf (content_in (file_state opened).now.trees)) (same_trees ∙ ap (λ (d : Database). d.trees) as_was) desk.holds.trees)
   begins db version (newest, inr upgraded) =
       let own = ap content_in same_trees ∙ trees_hold upgraded.content (file_state left).now.trees upgraded.holds.trees in

@@ -56,7 +56,8 @@ lent_by {M} {L} {Reads} {Writes} {R} {W} {E} {V} {S} {O} {T} machine input outpu
 }
 
 module _ (lent : Lent) where
-  -- All of that at one moment. Of a file it has the drive, and the connection that was left to it, if there is one.
+  -- All of that at one moment. Of a file it has the drive, and what a job left of it: a connection, or a file that holds no database, or that
+  -- of a journal.
   pub record World : Type 0 where
     pub machine : lent.Machine
     pub input : Counted lent.Input

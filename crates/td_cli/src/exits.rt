@@ -59,7 +59,7 @@ pub enum Word {
     Damaged(Rule),
     /// The last line of a journal is no row of a change.
     Journal,
-    /// The database answered an error.
+    /// The database answered an error, or has other tables than a desk's; another program has the file open; or a journal's file failed.
     Store,
     /// Want of memory.
     NoMemory,

@@ -15,7 +15,7 @@ use typed_sql::see_settled;
 /// A desk over a file of a drive.
 pub type FileDesk<V> = SqlDesk<FileStore<<V as Drive>::Disk>>;
 
-/// Why there is no desk over a file. Its line is what the program prints.
+/// Why there is no desk over a file.
 #[derive(Clone, Copy, Debug, PartialEq, Eq, AsError)]
 pub enum DeskFault {
     /// The file isn't there, can't be opened, or is no database.
@@ -60,6 +60,8 @@ impl<V: Drive> OneFile<V, <V as Drive>::Disk> {
         ensures fault { result ≡ fault.Refused refused.fault }
         ensures handed { self.new.connection ≡ Some refused.connection }
         ensures drive { self.new.drive ≡ self.old.drive }
+        ensures unopened { self.new.unopened ≡ self.old.unopened }
+        ensures journal { self.new.journal ≡ self.old.journal }
     {
         let Refused { fault, connection } = refused;
         self.hold(connection);
@@ -123,6 +125,8 @@ impl<V: Drive> OneFile<V, <V as Drive>::Disk> {
         ensures there { self.new.connection ≡ Some desk }
         ensures kept { IsKeptDesk desk }
         ensures drive { self.new.drive ≡ self.old.drive }
+        ensures unopened { self.new.unopened ≡ self.old.unopened }
+        ensures journal { self.new.journal ≡ self.old.journal }
     {
         self.hold(desk.close());
     }

@@ -75,6 +75,7 @@ impl<V: Drive> OneFile<V, <V as Drive>::Disk> {
         ensures kept { self.new.unopened ≡ Some left }
         ensures drive { self.new.drive ≡ self.old.drive }
         ensures connection { self.new.connection ≡ self.old.connection }
+        ensures journal { self.new.journal ≡ self.old.journal }
     {
         if let Error::SqliteFailure(ErrorCode::NotADatabase) = error {
             self.drive.discard_new_log();
@@ -88,6 +89,8 @@ impl<V: Drive> OneFile<V, <V as Drive>::Disk> {
     pub(crate) fn hold(&mut self, connection: FileConnection<V>)
         ensures connection { self.new.connection ≡ Some connection }
         ensures drive { self.new.drive ≡ self.old.drive }
+        ensures unopened { self.new.unopened ≡ self.old.unopened }
+        ensures journal { self.new.journal ≡ self.old.journal }
     {
         self.connection = Some(connection);
     }

@@ -1,5 +1,6 @@
-//! The file in which a desk's records stand: opened by its path on a drive, with a desk over it or to be brought to the
-//! newest version of its tables, and closed.
+//! The file in which a desk's records stand: opened by its path on a drive, with a desk over it, to be brought to the newest version of
+//! its tables, to have the holders of a range copied out of it, or to have another desk's rows put into it; and closed. And the file of a
+//! journal.
 #![tactic(auto)]
 
 mod desks;

@@ -6,9 +6,10 @@ use Rattle.sqlite.specs.Effect.{Database}
 use Rattle.sqlite.specs.State.{State}
 use Rattle.td_model.specs.Content.{Content}
 use Rattle.td_table_model.specs.Tables.{first_version, version_with_amounts}
-use Rattle.td_schema.specs.Layouts.{grown, schema_of, version_of}
+use Rattle.td_schema.specs.Layouts.{grown, newest_version, schema_of, version_of}
 use Rattle.td_schema.specs.declared.layout.Layout.{Layout}
 use Rattle.td_schema.specs.declared.layout.Layout.TheVariants.{Made1, Made2, Grown2, Made3, Grown3From2, Grown3From1}
+use Rattle.td_store_check.specs.Opened.{IsKnown, IsSchemaOf, MaySay}
 use Rattle.td_store_rows.specs.StoreTables.{AreTreesOf, HasOfficeRow}
 use Rattle.td_migrate.specs.declared.fault.MigrateFault.{MigrateFault}
 use Rattle.td_migrate.specs.Grown.{AreGrown, HoldsVersion, IsGrownFile, LeavesEmpty}
@@ -107,6 +108,12 @@ pub step_told : (version : ℕ) (old : Database) (new : State) (result : Result 
 step_told version old new (Ok done) grown says = grown
 step_told version old new (Err fault) grown (inl is) = subst (λ f. TellsStep version old new (Err f)) (sym is) tt
 step_told version old new (Err fault) grown (inr is) = subst (λ f. TellsStep version old new (Err f)) (sym is) tt
+
+-- a file of the newest version is left as it is
+pub newest_told : (old : Database) (new : State) (found : ℕ) → found ≡ newest_version → new.now ≡ old
+    → IsSchemaOf found old.schema × IsKnown found × MaySay found old.trees → TellsUpgrade old new (Ok newest_version)
+newest_told old new found is same told =
+    (refl, inl (same, subst (λ v. IsSchemaOf v old.schema × MaySay v old.trees) is (told.0, told.2)))
 
 -- nor does an upgrade tell anything of the file by such a fault
 pub nothing_told : (old : Database) (new : State) (fault : MigrateFault) → SaysNothing fault → TellsUpgrade old new (Err fault)

@@ -13,7 +13,7 @@ use Rattle.td_store_rows.specs.StoreTables.{AreTreesOf, HoldsContent}
 use Rattle.td_store_audit_rows.specs.Untyped.{IsFirstBrokenUntyped}
 use Rattle.td_store_check.specs.declared.fault.OpenFault.{OpenFault}
 use Rattle.td_store_check.specs.declared.fault.OpenFault.TheVariants as open_fault
-use Rattle.td_store_check.specs.Opened.{IsKnown, IsOfEarlier, IsOfUnknownVersion, IsStoreSchema, MaySay}
+use Rattle.td_store_check.specs.Opened.{IsKnown, IsOfEarlier, IsOfUnknownVersion, IsSchemaOf, MaySay}
 use Rattle.td_migrate.specs.declared.fault.MigrateFault.{MigrateFault}
 use Rattle.td_migrate.specs.declared.fault.MigrateFault.TheVariants.{Damaged, NoMemory, Store, UnknownVersion}
 use Rattle.td_migrate.specs.Grown.{AreGrown, GrowsFrom, HoldsVersion, LeavesEmpty, MayLeaveGrown}
@@ -33,7 +33,7 @@ SaysNothing fault = (fault ≡ Store) ⊎ (fault ≡ NoMemory)
 
 -- what an answer says of the version of the tables in a database
 abbrev pub TellsVersion : Database → Result ℕ MigrateFault → Type 0
-TellsVersion db (Ok version) = IsStoreSchema db.schema × IsKnown version × MaySay version db.trees
+TellsVersion db (Ok version) = IsSchemaOf version db.schema × IsKnown version × MaySay version db.trees
 TellsVersion db (Err UnknownVersion) = IsOfUnknownVersion db
 TellsVersion db (Err (Damaged rule)) = ⊥
 TellsVersion db (Err Store) = Unit {0}
@@ -90,11 +90,12 @@ pub record WasUpgraded (old : Database) (new : State) : Type 0 where
   pub holds : HoldsContent content new
   pub upgraded : AreUpgraded layout content old.trees new.now.trees
 
--- What came of an upgrade. It answers the newest version: the office's own row said that, and nothing is changed, or the file was of
--- an earlier one. Or a fault: no version is known, or the rows of that earlier version break this rule first.
+-- What came of an upgrade. It answers the newest version: the tables were of that, as the office's own row said, and nothing is changed,
+-- or the file was of an earlier one. Or a fault: no version is known, or the rows of that earlier version break this rule first.
 abbrev pub TellsUpgrade : Database → State → Result ℕ MigrateFault → Type 0
 TellsUpgrade old new (Ok version) =
-    (version ≡ newest_version) × (((new.now ≡ old) × MaySay newest_version old.trees) ⊎ WasUpgraded old new)
+    (version ≡ newest_version)
+    × (((new.now ≡ old) × IsSchemaOf newest_version old.schema × MaySay newest_version old.trees) ⊎ WasUpgraded old new)
 TellsUpgrade old new (Err UnknownVersion) = IsOfUnknownVersion old
 TellsUpgrade old new (Err (Damaged rule)) = (version : ℕ) × IsOfEarlier version old.trees × IsDamagedAt version rule old
 TellsUpgrade old new (Err Store) = Unit {0}

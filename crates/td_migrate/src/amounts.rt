@@ -13,7 +13,7 @@ ghost use Rattle.td_store_rows.specs.StoreReads.{ReadsVersion};
 ghost use Rattle.td_store_rows.specs.MovementTable.{serial_of_stored};
 ghost use Rattle.td_migrate.specs.InUse.{AreInUse, AreSumsBelow};
 
-use crate::ranges::{end_of, range_end};
+use crate::serials::end_of;
 use sqlite::{Error, ErrorCode, Transaction};
 use sqlite_trees::store::Alter;
 use std::alloc::Global;
@@ -21,7 +21,7 @@ use td_base::HolderNo;
 use td_schema::VERSION_WITH_AMOUNTS;
 use td_store_audit::{Totals, lines_within};
 use td_store_audit_rows::RawHolder;
-use td_store_rows::{MovementSerial, StoredLine, counting_serials};
+use td_store_rows::{MovementSerial, StoredLine, counting_serials, range_end};
 
 // Whether serials stand in ascending order, no two alike.
 fn rise(serials: &[MovementSerial]) -> bool

@@ -7,7 +7,7 @@ use sqlite::{Error as SqlError, ErrorCode};
 use td_store_check::{OpenFault, Rule};
 use thiserror::Error;
 
-/// Why a file isn't brought to the newest version. Its line is what the program prints.
+/// Why a file isn't brought to the newest version.
 #[derive(Clone, Copy, Debug, PartialEq, Eq, Error)]
 pub enum MigrateFault {
     /// The tables are of no version that is known.
@@ -16,7 +16,8 @@ pub enum MigrateFault {
     /// The rows break a rule of sound tables: this, and none before it.
     #[error("damaged {0}")]
     Damaged(Rule),
-    /// The tables are none of a store of the version that the file says, or the store answered an error other than want of memory.
+    /// The tables are none of a store of the version that the office's own row says, or the database answered an error other than want
+    /// of memory.
     #[error("store")]
     Store,
     /// Want of memory.

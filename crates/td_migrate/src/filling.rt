@@ -11,14 +11,14 @@ ghost use Rattle.td_migrate.specs.Put.{IsGrownFrom};
 ghost use Rattle.td_migrate.specs.Filled.{AreFirstWithin, FillsAll, FillsOf, FillsWith, FillsWithin, IsFirst};
 
 use crate::amounts::amounts_in_use;
-use crate::ranges::{end_of, range_end};
+use crate::serials::end_of;
 use sqlite::{Error, ErrorCode, Transaction};
 use sqlite_trees::store::Alter;
 use std::alloc::Global;
 use td_base::HolderNo;
 use td_store_audit::Totals;
 use td_store_audit_rows::{RawHolder, holder_above};
-use td_store_rows::{StoredGuarantee, insert_guarantee, range_key};
+use td_store_rows::{StoredGuarantee, insert_guarantee, range_end, range_key};
 use typed_sql::fetch;
 
 /// The rows of a holder with serials from one on and below another, in the table of version 1.

@@ -7,7 +7,7 @@ mod fault;
 mod filling;
 mod growing;
 mod lines;
-mod ranges;
+mod serials;
 mod upgrading;
 
 pub use fault::MigrateFault;

@@ -9,14 +9,14 @@ ghost use Rattle.td_store_rows.specs.StoreReads.{IsOfVersion, ReadsIn};
 ghost use Rattle.td_migrate.specs.Put.{IsAnyFile, IsGrownFrom};
 ghost use Rattle.td_migrate.specs.LinesMoved.{AreOlderLines, BecomesThird, MovesLines, PutsAllLines, PutsLines, PutsLinesWithin};
 
-use crate::ranges::{end_of, range_end};
+use crate::serials::end_of;
 use sqlite::{Error, Transaction};
 use sqlite_trees::store::Alter;
 use std::alloc::Global;
 use td_base::HolderNo;
 use td_schema::{VERSION_WITH_MORE_LINES, make_lines3};
 use td_store_audit_rows::holder_above;
-use td_store_rows::{StoredLine, empty_lines1, insert_line, range_key, set_version};
+use td_store_rows::{StoredLine, empty_lines1, insert_line, range_end, range_key, set_version};
 use typed_sql::fetch;
 
 /// The rows of a holder's movements with serials from one on and below another, in the table below version 3.

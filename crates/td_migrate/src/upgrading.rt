@@ -17,8 +17,9 @@ use td_store_check::{audit, file_version};
 use typed_sql::see_settled;
 
 /// The version of the tables in a file, from 1 to the newest, as the office's own row says it. `UnknownVersion`: there is no table
-/// `meta`, or it is the first and has no such row; `Store`: the tables are none of a store, or the database answered an error other
-/// than want of memory; `NoMemory`: want of memory. Nothing is changed, and a crash leaves what it could before.
+/// `meta`, or it is the first and has no such row; `Store`: the tables are none of a store, or are of another version than the row says,
+/// or the database answered an error other than want of memory; `NoMemory`: want of memory. Nothing is changed, and a crash leaves what
+/// it could before.
 pub fn version<S: Alter>(alloc: Global, conn: &mut Connection<S>) -> Result<u32, MigrateFault>
     requires { conn.old.in_transaction ≡ false }
     ensures ended { conn.new.in_transaction ≡ false }

@@ -1,9 +1,8 @@
 //! Which fault an error of the database is told as.
-ghost use Rattle.std.specs.Prelude.{◌≡◌, ◌≢◌, ◌⊎◌, false, Err, IfErr, IfOk, IsErr, IsTrue, Ok};
+ghost use Rattle.std.specs.Prelude.{◌≡◌, ◌≢◌, false, Err, IfErr, IfOk, IsErr, IsTrue, Ok};
 ghost use Rattle.sqlite.specs.Held.{state};
 ghost use Rattle.sqlite.specs.State.{HasCleanDisk};
 ghost use Rattle.typed_sql.specs.Outside.{CrashLeavesShown, Looks};
-ghost use Rattle.td_desk.specs.declared.fault.Fault.TheVariants as fault;
 
 use sqlite::{Connection, Error, ErrorCode};
 use sqlite_trees::store::Alter;

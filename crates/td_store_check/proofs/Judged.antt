@@ -2,7 +2,7 @@
 use Rattle.std.proofs.Common.{◌≡◌, ◌∙◌, ◌⊎◌, ℕ, Bool, inl, inr, true, false, if◌then◌else◌, List, [], ◌∷◌, Option, Some, None, Err, Ok, Result, ap, length, map, refl, subst, sym}
 use Rattle.std.specs.Prelude.{pos, is_some, option_map, IfOk, IfSome, IsTrue}
 use Rattle.std.specs.Bool.{Decides}
-use Rattle.std.specs.Option.{ok_or, option_to_list}
+use Rattle.std.specs.Option.{option_to_list}
 use Rattle.std.proofs.lemmas.Bool.Decides.{Decides-and, Decides-eqb, Decides-like}
 use Rattle.sqlite.specs.declared.error.Error.{Error}
 use Rattle.sqlite.specs.Effect.{Database}
@@ -28,7 +28,7 @@ use Rattle.td_store_audit.specs.Broken.{TellsBroken}
 use Rattle.td_store_check.specs.declared.fault.OpenFault.{OpenFault}
 use Rattle.td_store_check.specs.declared.fault.OpenFault.TheVariants.{UnknownVersion, NeedsMigration, OtherCountry, Damaged, Store, NoMemory}
 use Rattle.td_store_check.proofs.Begins.{store_begins}
-use Rattle.td_store_check.specs.Opened.{IsDamage, IsOfAnother, IsOfEarlier, IsOfficeIn, IsOfKnownVersion, MaySay, TellsDatabase, TellsFileVersion, TellsKnown, TellsOffice, TellsRows, TellsRules, TellsTables}
+use Rattle.td_store_check.specs.Opened.{IsDamage, IsOfAnother, IsOfEarlier, IsOfficeIn, IsOfKnownVersion, MaySay, TellsByOffice, TellsDatabase, TellsFileVersion, TellsKnown, TellsOffice, TellsRows, TellsRules, TellsTables}
 
 country_decided : (text : List ℕ) → Decides (is_country text) (IsCountry text)
 country_decided text =
@@ -82,10 +82,15 @@ module _ (trees : Trees) (office : Option StoredMeta) (found : IsOfficeIn trees 
 
 -- what is told of the version by the office's own row, in a store's file
 pub version_told : (db : Database) (layout : Layout) → db.schema ≡ schema_of layout → (office : Option StoredMeta) → IsOfficeIn db.trees office
-    → (known : Option ℕ) → TellsKnown office known → TellsFileVersion db (ok_or known UnknownVersion)
-version_told db layout has office found None none = inr (store_begins layout db.schema has, of_no_version db.trees office found none)
-version_told db layout has office found (Some version) said =
-    ((layout, has), said.3, says db.trees office found version said.0 said.1 said.2)
+    → (told : Result ℕ OpenFault) → TellsByOffice (version_of layout) office told → TellsFileVersion db told
+version_told db layout has office found (Ok version) said =
+    ((layout, sym said.0, has), said.1.3, says db.trees office found version said.1.0 said.1.1 said.1.2)
+version_told db layout has office found (Err UnknownVersion) none = inr (store_begins layout db.schema has, of_no_version db.trees office found none)
+version_told db layout has office found (Err Store) said = tt
+version_told db layout has office found (Err NoMemory) wrong = absurd wrong
+version_told db layout has office found (Err (NeedsMigration version)) wrong = absurd wrong
+version_told db layout has office found (Err OtherCountry) wrong = absurd wrong
+version_told db layout has office found (Err (Damaged rule)) wrong = absurd wrong
 
 -- and where only the first table is a store's
 pub other_version_told : (db : Database) → MetaIsFirst db.schema → (office : Option StoredMeta) → IsOfficeIn db.trees office

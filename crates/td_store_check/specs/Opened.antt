@@ -34,6 +34,10 @@ LacksMeta s = table_named s (codes "meta") ≡ None
 abbrev pub IsStoreSchema : Schema → Type 0
 IsStoreSchema s = (l : Layout) × (s ≡ schema_of l)
 
+-- they are, of a layout of this version
+abbrev pub IsSchemaOf : ℕ → Schema → Type 0
+IsSchemaOf version s = (l : Layout) × (version_of l ≡ version) × (s ≡ schema_of l)
+
 -- what is told of a database's tables
 abbrev pub AreTold : Schema → Tables → Type 0
 AreTold s (tables.Store layout) = s ≡ schema_of layout
@@ -128,10 +132,17 @@ abbrev pub TellsKnown : Option StoredMeta → Option ℕ → Type 0
 TellsKnown meta None = (m : StoredMeta) → meta ≡ Some m → ¬ IsKnownNumber m.version
 TellsKnown meta (Some version) = (m : StoredMeta) × (meta ≡ Some m) × (m.version ≡ pos version) × IsKnown version
 
--- What is said of the version of the tables in a database: they are a store's, and the office's own row says this version; or it isn't
--- known. `Store` and `NoMemory` say nothing, and no other fault comes.
+-- what the office's own row, as it was read, says of tables of that version: it says that version, or another, or none that is known
+abbrev pub TellsByOffice : ℕ → Option StoredMeta → Result ℕ OpenFault → Type 0
+TellsByOffice tables meta (Ok version) = (version ≡ tables) × TellsKnown meta (Some version)
+TellsByOffice tables meta (Err UnknownVersion) = TellsKnown meta None
+TellsByOffice tables meta (Err Store) = (version : ℕ) × (version ≢ tables) × TellsKnown meta (Some version)
+TellsByOffice tables meta (Err _) = ⊥
+
+-- What is said of the version of the tables in a database: they are a store's of this version, and the office's own row says it; or it
+-- isn't known. `Store` and `NoMemory` say nothing, and no other fault comes.
 abbrev pub TellsFileVersion : Database → Result ℕ OpenFault → Type 0
-TellsFileVersion db (Ok version) = IsStoreSchema db.schema × IsKnown version × MaySay version db.trees
+TellsFileVersion db (Ok version) = IsSchemaOf version db.schema × IsKnown version × MaySay version db.trees
 TellsFileVersion db (Err UnknownVersion) = IsOfUnknownVersion db
 TellsFileVersion db (Err Store) = Unit {0}
 TellsFileVersion db (Err NoMemory) = Unit {0}

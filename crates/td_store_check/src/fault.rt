@@ -6,7 +6,7 @@ use sqlite::{Error, ErrorCode};
 use td_table_model::Rule;
 use thiserror::Error;
 
-/// Why a connection isn't taken for a desk. Its line is what the program prints.
+/// Why a connection isn't taken for a desk.
 #[derive(Clone, Copy, Debug, PartialEq, Eq, Error)]
 pub enum OpenFault {
     /// The tables are of no version that is known.
@@ -21,7 +21,8 @@ pub enum OpenFault {
     /// The tables break a rule: this, and none before it.
     #[error("damaged {0}")]
     Damaged(Rule),
-    /// The store answered an error other than want of memory, or, where a desk is to be made, has a table already.
+    /// The tables are none of a store, or are of another version than the office's own row says; where a desk is to be made, there is
+    /// a table already; or the database answered an error other than want of memory.
     #[error("store")]
     Store,
     /// Want of memory.

@@ -81,6 +81,7 @@ fn fault_in<S: Alter>(
     ensures told { HasCleanDisk (state S.Store conn.new)
         → IfOk result (TellsTables country layout (state S.Store conn.old).now.trees) }
 {
+    // For its clause: the country is two capital letters.
     let _letters = country.as_bytes();
     let fault = office_fault(read_office(conn)?, country);
     if fault.is_some() {

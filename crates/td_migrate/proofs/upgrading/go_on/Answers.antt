@@ -5,6 +5,7 @@ use Rattle.sqlite.specs.State.{HasCleanDisk, State}
 use Rattle.sqlite.proofs.StateLemmas.{survives_then}
 use Rattle.td_migrate.specs.Upgraded.{LeavesReached, MayLeaveUpgraded}
 use Rattle.td_migrate.proofs.Reached.{reached_none, shown_still}
+use Rattle.td_migrate.proofs.Stepping.{newest_told}
 use Rattle.td_migrate.proofs.upgrading.go_on.Goals as goal
 
 pub returns-then-found-lt-NEWEST_VERSION-clause-crash : goal.returns-then-found-lt-NEWEST_VERSION-clause-crash
@@ -36,3 +37,11 @@ returns-in_err-found-clause-reached g c clean before =
 pub returns-clause-reached : goal.returns-clause-reached
 returns-clause-reached g c clean before =
     reached_none (state g.S.Store c.args.conn.now) (state g.S.Store c.version.new.conn) c.version.ensures.looks.crash clean before
+
+pub returns-clause-told : goal.returns-clause-told
+returns-clause-told g c clean =
+    let o : State = state g.S.Store c.args.conn.now in
+    let b : State = state g.S.Store c.version.new.conn in
+    let told = c.in_ok-found.ensures.told clean in
+    newest_told o.now b c.in_ok-found.found (omega (arith, told.1.1, c.if-found-lt-NEWEST_VERSION.false))
+    (c.in_ok-found.ensures.looks.same clean (c.in_ok-found.ensures.looks.shown clean refl).1) told
