@@ -113,7 +113,8 @@ step_told version old new (Err fault) grown (inr is) = subst (λ f. TellsStep ve
 pub newest_told : (old : Database) (new : State) (found : ℕ) → found ≡ newest_version → new.now ≡ old
     → IsSchemaOf found old.schema × IsKnown found × MaySay found old.trees → TellsUpgrade old new (Ok newest_version)
 newest_told old new found is same told =
-    (refl, inl (same, subst (λ v. IsSchemaOf v old.schema × MaySay v old.trees) is (told.0, told.2)))
+    let now = subst (λ v. IsSchemaOf v old.schema × MaySay v old.trees) is (told.0, told.2) in
+    (refl, inl (same, now.0, now.1))
 
 -- nor does an upgrade tell anything of the file by such a fault
 pub nothing_told : (old : Database) (new : State) (fault : MigrateFault) → SaysNothing fault → TellsUpgrade old new (Err fault)
