@@ -1,6 +1,6 @@
 //! The rows of one holder, and the verdict on a command over these rows. The model that the verdict is proved
-//! to meet stands in `specs/`. It hands on what is asked of the desk and what it says: commands, answers and
-//! refusals.
+//! to meet is td_model's. What was loaded of an account, and what a desk decides, stands in `specs/`. It hands on
+//! what is asked of the desk and what it says: commands, answers and refusals.
 #![tactic(auto)]
 
 mod declaring;

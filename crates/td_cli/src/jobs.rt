@@ -46,9 +46,9 @@ pub fn perform<V: Drive, O: Drive, R: Read, W: Write, E: Write>(
 ///
 /// Of the machine the clock is asked, a file of rows is read and a port is listened on. `file` is the desk's file, the one that the
 /// words name first, and `other` that of `--into`, of `--with` or of `--journal`: a job opens them at their paths, and hands back
-/// connections to them, or the file of a journal itself. The input is read by a job alone: a stream, and a standby desk, which follows a journal by it. Replies, result
-/// files, reports, and texts that were asked for go to `out`; what is wrong with the words, or one line for a fault, to `errors`. A text
-/// that can't be written there is dropped.
+/// connections to them, or the file of a journal itself. The input is read by a job alone: a stream, and a standby desk, which
+/// follows a journal by it. Replies, result files, reports, and texts that were asked for go to `out`; what is wrong with the words,
+/// or one line for a fault, to `errors`. A text that can't be written there is dropped.
 pub fn perform_on<M: Machine, V: Drive, O: Drive, R: Read, W: Write, E: Write>(
     alloc: Global,
     machine: &mut M,

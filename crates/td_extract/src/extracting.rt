@@ -1,5 +1,5 @@
 //! A desk's file of the holders of a range, made in a database without tables.
-ghost use Rattle.std.specs.Prelude.{◌≡◌, ◌↔◌, false, Err, IsTrue, OnErr, OnOk, is_ok};
+ghost use Rattle.std.specs.Prelude.{◌≡◌, false, Err, IsTrue, OnErr, OnOk, is_ok};
 ghost use Rattle.sqlite.specs.Held.{state};
 ghost use Rattle.sqlite.specs.State.{HasCleanDisk, Survives};
 ghost use Rattle.typed_sql.specs.Outside.{CrashLeavesShown, Looks};
@@ -15,17 +15,9 @@ use sqlite_trees::store::Alter;
 use std::alloc::Global;
 use td_base::{Country, HolderNo};
 use td_desk::Fault;
-use td_schema::{NEWEST_LAYOUT, NEWEST_VERSION, make_tables};
+use td_schema::{NEWEST_LAYOUT, NEWEST_VERSION, is_blank, make_tables};
 use td_store_rows::insert_meta;
 use typed_sql::{see_open, see_settled};
-
-// Whether the database has no table.
-fn is_blank<T: Alter>(conn: &Connection<T>) -> bool
-    ensures { IsTrue result ↔ IsEmptyOf no_schema (state T.Store conn.now).now }
-{
-    let schema = conn.schema();
-    schema.tables.is_empty() && schema.indexes.is_empty() && schema.views.is_empty()
-}
 
 // Makes the tables of an office of that country, and puts into them the rows of the holders of a range of another file of the
 // office's.

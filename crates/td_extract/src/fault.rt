@@ -6,7 +6,7 @@ use sqlite::{Error, ErrorCode};
 use td_desk::Fault;
 
 /// Want of memory where the error says so, else the store's.
-pub fn fault_of_error(error: &Error) -> Fault
+pub(crate) fn fault_of_error(error: &Error) -> Fault
     ensures memory { error.now ≡ Error.SqliteFailure ErrorCode.OutOfMemory → result ≡ fault.NoMemory }
     ensures store { error.now ≢ Error.SqliteFailure ErrorCode.OutOfMemory → result ≡ fault.Store }
 {

@@ -10,6 +10,5 @@ mod laws;
 mod putting;
 
 pub use extracting::extract;
-pub use fault::fault_of_error;
 pub use holders::{copy_holders, next_holder};
 pub use laws::{accounts_are_of_the_range, sound_parts_are_sound};

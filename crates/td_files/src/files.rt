@@ -26,7 +26,7 @@ pub struct OneFile<V, D: Disk> {
 pub type DeskFile<V> = OneFile<V, <V as Drive>::Disk>;
 
 /// A connection to the database in a file of a drive.
-pub type FileConnection<V> = Connection<FileStore<<V as Drive>::Disk>>;
+pub(crate) type FileConnection<V> = Connection<FileStore<<V as Drive>::Disk>>;
 
 /// What a file that was open is closed to: its log and its database file, or why the one wasn't copied into the other.
 pub type Closed<D> = Result<Files<D>, (Error, FileStore<D>)>;

@@ -10,6 +10,6 @@ mod joins;
 mod upgrades;
 
 pub use desks::{DeskFault, FileDesk};
-pub use files::{Closed, DeskFile, FileConnection, OneFile};
+pub use files::{Closed, DeskFile, OneFile};
 pub use joins::JoinRefusal;
 pub use td_store::OpenFault;

@@ -13,8 +13,8 @@ use td_base::{Country, Moment};
 use td_desk::{Command, Decision, Desk, Fault, Said};
 use td_journal_rows::{row_of_change, write_row};
 
-/// A desk that keeps a journal of its accepted changes. After a fault by which it isn't known whether a change stands, it answers
-/// nothing but `Store`.
+/// A desk that keeps a journal of its accepted changes. It answers nothing but `Store` after a fault by which it isn't known
+/// whether a change stands, and after one that left a row in the journal whose change doesn't stand.
 #[derive(Drop)]
 pub struct JournaledDesk<D: Desk, F: Disk> {
     desk: D,

@@ -121,7 +121,7 @@ impl<F: Disk> Journal<F> {
     }
 
     /// Cuts off what stands behind the text, and answers whether that was done; else no further row is written.
-    pub fn cut(&mut self) -> bool
+    pub(crate) fn cut(&mut self) -> bool
         ensures text { text_of self.new ≡ text_of self.old }
         ensures next { next_number self.new ≡ next_number self.old }
         ensures open { is_open self.new ≡ result }

@@ -19,7 +19,9 @@ use td_redo::{Redone, redo_row};
 
 /// The desk with the journal in this file. The journal may be one row ahead of the desk's records: so its last row is asked again at
 /// the desk. A crash may have left a torn row behind that: it is cut off, but only once the last row is known to be the desk's. A
-/// file of no bytes is a new journal.
+/// file of no bytes is a new journal. `BadJournal`: its last whole line isn't exactly the row of a change; `ForeignRow`: at this
+/// desk the last row's command is told something else; `Store`: a call of the file failed, or the desk's store; `NoMemory`: want of
+/// memory. The desk and the file come back with each.
 pub fn start_journal<D: Desk, F: Disk>(
     alloc: Global,
     mut desk: D,

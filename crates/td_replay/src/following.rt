@@ -138,7 +138,9 @@ fn do_next<D: Desk>(alloc: Global, desk: &mut D, row: &ChangeRow) -> Result<u64,
 
 /// Does the rows of a journal that come by the input, numbered from 1 on, as they come: each at its own moment, and each is to be
 /// told what it has. It ends well where the input ends, and answers how many rows were done; the bytes of a row that was torn off
-/// are left out.
+/// are left out. `BadRow`: a line is the row of no change; `Misplaced`: a row's number isn't the next one; `Differs`: a row that was
+/// done was told something else; `Unread`: the input failed; `Failed`: the desk failed at a row, or memory was missing. The rows
+/// before it stand.
 pub fn follow<D: Desk, R: Read>(
     alloc: Global,
     desk: &mut D,

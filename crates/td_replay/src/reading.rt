@@ -17,7 +17,7 @@ pub struct Changes {
 }
 
 /// The whole lines of a journal's text, each exactly the row of a change, and the bytes of a torn one behind them. Where a line
-/// is the row of no change, the first such line is told, and no row is given.
+/// is the row of no change, the first such line is told, and no row is given. `BadRow`: that line; `NoMemory`: want of memory.
 pub fn read_changes(alloc: Global, bytes: &[u8]) -> Result<Changes, JournalFault>
     ensures rows { IfOk result (λ read. HasChanges bytes.now (map numbered read.rows.items) read.torn) }
     ensures bad { IfErr result (TellsJournal bytes.now) }

@@ -17,4 +17,4 @@ pub use layout::{
     FIRST_VERSION, Layout, NEWEST_LAYOUT, NEWEST_VERSION, VERSION_WITH_AMOUNTS,
     VERSION_WITH_MORE_LINES,
 };
-pub use making::{make_guarantees2, make_lines3, make_tables};
+pub use making::{is_blank, make_guarantees2, make_lines3, make_tables};

@@ -1,5 +1,5 @@
 //! How the tables are made.
-ghost use Rattle.std.specs.Prelude.{◌≡◌, OnOk, is_ok};
+ghost use Rattle.std.specs.Prelude.{◌≡◌, ◌↔◌, IsTrue, OnOk, is_ok};
 ghost use Rattle.sqlite.specs.Held.{state};
 ghost use Rattle.sqlite.specs.State.{HasCleanDisk};
 ghost use Rattle.sqlite_catalog.specs.Change.{created};
@@ -15,8 +15,16 @@ ghost use Rattle.td_schema.specs.Making.{MakesOne, IsMade};
 
 use crate::layout::Layout;
 use crate::texts::{CODES, GUARANTEES, GUARANTEES2, HOLDERS, LINES, LINES3, META, MOVEMENTS};
-use sqlite::{Error, Transaction};
+use sqlite::{Connection, Error, Transaction};
 use sqlite_trees::store::Alter;
+
+/// Whether the database has no table.
+pub fn is_blank<S: Alter>(conn: &Connection<S>) -> bool
+    ensures { IsTrue result ↔ IsEmptyOf no_schema (state S.Store conn.now).now }
+{
+    let schema = conn.schema();
+    schema.tables.is_empty() && schema.indexes.is_empty() && schema.views.is_empty()
+}
 
 // Makes a table beside those that there are, inside a transaction.
 fn make<S: Alter>(tx: &mut Transaction<'_, S>, text: &str) -> Result<(), Error>

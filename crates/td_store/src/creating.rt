@@ -1,5 +1,5 @@
 //! A desk made in an empty database.
-ghost use Rattle.std.specs.Prelude.{◌≡◌, ◌⊎◌, ◌↔◌, false, IsTrue, IfOk, IfErr, MatchResult};
+ghost use Rattle.std.specs.Prelude.{◌≡◌, ◌⊎◌, false, IsTrue, IfOk, IfErr, MatchResult};
 ghost use Rattle.sqlite.specs.Held.{state};
 ghost use Rattle.sqlite.specs.State.{HasCleanDisk, Survives};
 ghost use Rattle.td_model.specs.Content.{empty_content};
@@ -17,17 +17,10 @@ use crate::refused::Refused;
 use sqlite::Connection;
 use sqlite_trees::store::Alter;
 use td_base::Country;
+use td_schema::is_blank;
 use td_store_check::{OpenFault, open_fault_of};
 use td_store_write::create_tables;
 use typed_sql::see_settled;
-
-// Whether the database has no table.
-fn is_blank<S: Alter>(conn: &Connection<S>) -> bool
-    ensures { IsTrue result ↔ IsEmptyOf no_schema (state S.Store conn.now).now }
-{
-    let schema = conn.schema();
-    schema.tables.is_empty() && schema.indexes.is_empty() && schema.views.is_empty()
-}
 
 impl<S: Alter> SqlDesk<S> {
     /// Makes a desk of an office of that country, which has no holders yet, in a database that has no table: the tables of the newest

@@ -121,7 +121,7 @@ pub struct Office {
     /// The country of the office.
     pub country: Country,
     /// The moment of all requests, in seconds since 1970; with none, the machine's clock is asked for each.
-    /// A report and a test of a file have none.
+    /// A report, a test of a file and a replay have none.
     pub at: Option<i64>,
 }
 
