@@ -24,9 +24,13 @@ IsDurable {g = g} j = (bytes : List ℕ) → g.may_leave j.file bytes → bytes 
 abbrev pub IsSafe : {F : Type 0} {g : Ghosts F} → Journal F g → Type 0
 IsSafe {g = g} j = (bytes : List ℕ) → g.may_leave j.file bytes → take j.end bytes ≡ text_of j
 
--- a call of its file failed since, or a sync of it before
-abbrev pub FileFailed : {F : Type 0} {g : Ghosts F} → Journal F g → Journal F g → Type 0
-FileFailed {g = g} old new = (g.is_usable old.file ≡ false) ⊎ MoreFaults (g.faults old.file) (g.faults new.file)
+-- a call of a file failed since, or a sync of it before
+abbrev pub FileFailed : {F : Type 0} → Ghosts F → F → F → Type 0
+FileFailed g old new = (g.is_usable old ≡ false) ⊎ MoreFaults (g.faults old) (g.faults new)
+
+-- so it was with a journal's file
+abbrev pub JournalFailed : {F : Type 0} {g : Ghosts F} → Journal F g → Journal F g → Type 0
+JournalFailed {g = g} old new = FileFailed g old.file new.file
 
 -- so many bytes more, or one number more, have no place
 abbrev pub IsFull : {F : Type 0} {g : Ghosts F} → ℕ → Journal F g → Type 0

@@ -9,7 +9,7 @@ use Rattle.td_model.specs.Content.{Content, IsSound}
 use Rattle.td_desk.specs.declared.fault.Fault.{Fault}
 use Rattle.td_desk.specs.declared.fault.Fault.TheVariants.{Store}
 use Rattle.td_desk.specs.View.{DeskView, LeavesOnly}
-use Rattle.td_journal.specs.Journal.{FileFailed, HasBehind, IsDurable, IsFull, IsSafe, IsTight, is_open, next_number, text_of}
+use Rattle.td_journal.specs.Journal.{HasBehind, IsDurable, IsFull, IsSafe, IsTight, JournalFailed, is_open, next_number, text_of}
 use Rattle.td_journal.specs.Texts.{IsNoted}
 use Rattle.td_journal.specs.declared.desk.JournaledDesk.{JournaledDesk}
 
@@ -70,7 +70,7 @@ pub record IsTakenBack {D F : Type 0} {g : Ghosts F} (view : DeskView D) (old : 
       → (x ≡ view.content old.desk) ⊎ HasBehind (written (waiting old)) old.journal bytes
   -- a fault of the store is one of the desk behind it, or of the journal's file, or the journal is full
   pub store : why ≡ Store → view.carried old.desk (Some Store) new.desk
-      ⊎ (FileFailed old.journal new.journal ⊎ IsFull (length (written (waiting old))) old.journal)
+      ⊎ (JournalFailed old.journal new.journal ⊎ IsFull (length (written (waiting old))) old.journal)
 
 abbrev pub carried_at : {D F : Type 0} {g : Ghosts F} → DeskView D → JournaledDesk D F g → Option Fault → JournaledDesk D F g → Type 0
 carried_at view old None new = IsWritten view old new

@@ -27,7 +27,7 @@ pub(crate) struct Written {
 }
 
 impl<F: Disk> Journal<F> {
-    ghost use Rattle.td_journal.specs.Journal.{FileFailed, IsBehind, IsDurable, IsFull, IsSafe, IsTight, faults_of, file_of, is_open, is_usable, next_number, text_of};
+    ghost use Rattle.td_journal.specs.Journal.{IsBehind, IsDurable, IsFull, IsSafe, IsTight, JournalFailed, faults_of, file_of, is_open, is_usable, next_number, text_of};
 
     /// The journal in a file, of which the first `end` bytes are the rows that stand, whose next row has this number.
     pub fn new(file: F, end: usize, next: u64) -> Self
@@ -79,7 +79,7 @@ impl<F: Disk> Journal<F> {
         ensures tight { IfSome result (λ w. IsTight self.old → length (file_of self.new) ≡ w.end) }
         ensures durable { IfSome result (λ _. IsDurable self.new) }
         ensures safe { IsSafe self.old → IsSafe self.new }
-        ensures failed { result ≡ None → FileFailed self.old self.new ⊎ IsFull (length row.now) self.old }
+        ensures failed { result ≡ None → JournalFailed self.old self.new ⊎ IsFull (length row.now) self.old }
         ensures counts { IfSome result (λ _. (faults_of self.old ≤ faults_of self.new) × IsTrue (is_usable self.new)) }
     {
         let end = self.end.checked_add(row.len())?;
@@ -94,7 +94,7 @@ impl<F: Disk> Journal<F> {
         ensures next { self.new.next ≡ self.old.next }
         ensures open { self.new.is_open ≡ self.old.is_open }
         ensures behind { OnOk result (IsBehind row.now self.new) }
-        ensures failed { OnErr result (FileFailed self.old self.new) }
+        ensures failed { OnErr result (JournalFailed self.old self.new) }
         ensures counts { OnOk result ((faults_of self.old ≤ faults_of self.new) × IsTrue (is_usable self.new)) }
         ensures tight { OnOk result (IsTight self.old → length (file_of self.new) ≡ self.new.end + length row.now) }
         ensures durable { OnOk result (IsDurable self.new) }
@@ -126,7 +126,7 @@ impl<F: Disk> Journal<F> {
         ensures next { next_number self.new ≡ next_number self.old }
         ensures open { is_open self.new ≡ result }
         ensures was_open { IsTrue result → IsTrue (is_open self.old) }
-        ensures failed { result ≡ false → IsTrue (is_open self.old) → FileFailed self.old self.new }
+        ensures failed { result ≡ false → IsTrue (is_open self.old) → JournalFailed self.old self.new }
         ensures counts { faults_of self.old ≤ faults_of self.new }
         ensures tight { IsTrue result → IsTight self.new }
         ensures durable { IsTrue result → IsDurable self.new }
@@ -143,7 +143,7 @@ impl<F: Disk> Journal<F> {
         ensures open { self.new.is_open ≡ self.old.is_open }
         ensures tight { OnOk result (IsTight self.new) }
         ensures counts { faults_of self.old ≤ faults_of self.new }
-        ensures failed { OnErr result (FileFailed self.old self.new) }
+        ensures failed { OnErr result (JournalFailed self.old self.new) }
         ensures durable { OnOk result (IsDurable self.new) }
         ensures safe { IsSafe self.old → IsSafe self.new }
     {

@@ -1,13 +1,12 @@
 -- What a start does to a desk and to the file of its journal.
-use Rattle.std.specs.Prelude.{◌≡◌, ◌≢◌, ◌⊎◌, ℕ, false, List, Option, None, Some, Result, Ok, Err, IfOk, IsTrue, OnErr, OnOk, length, take}
-use Rattle.sqlite_disk.specs.Disk.{MoreFaults}
+use Rattle.std.specs.Prelude.{◌≡◌, ◌≢◌, ◌⊎◌, ℕ, List, Option, None, Some, Result, Ok, Err, IfOk, IsTrue, OnErr, OnOk, length, take}
 use Rattle.sqlite_disk.specs.declared.Disk.{Ghosts}
 use Rattle.td_commands.specs.Commands.{IsProper}
 use Rattle.td_model.specs.Content.{IsSound}
 use Rattle.td_desk.specs.View.{AddsAtMost, DeskView, IsSettled}
 use Rattle.td_desk.specs.declared.fault.Fault.{Fault}
 use Rattle.td_desk.specs.declared.fault.Fault.TheVariants as fault
-use Rattle.td_journal.specs.Journal.{next_number, text_of}
+use Rattle.td_journal.specs.Journal.{FileFailed, next_number, text_of}
 use Rattle.td_journal.specs.declared.desk.JournaledDesk.{JournaledDesk}
 use Rattle.td_journal_lines.specs.Lines.{Numbered}
 use Rattle.td_journal_start.specs.Lines.{IsJournal, IsNoJournal, next_after}
@@ -46,10 +45,6 @@ pub record IsAsFound {F : Type 0} (g : Ghosts F) (file left : F) : Type 0 where
   pub leaves : (bytes : List ℕ) → g.may_leave left bytes → g.may_leave file bytes
   pub clean : IsTrue (g.is_clean left) → IsTrue (g.is_clean file)
 
--- a call of the file failed, or a sync of it before
-abbrev pub HasFailed : {F : Type 0} → Ghosts F → F → F → Type 0
-HasFailed g file left = (g.is_usable file ≡ false) ⊎ MoreFaults (g.faults file) (g.faults left)
-
 -- A start: the last row of the file's text was taken, and the text alone is left. What is said of the file's bytes is said
 -- where they were read as they are.
 pub record IsStarted {D F : Type 0} {g : Ghosts F} (view : DeskView D) (desk : D) (file : F) (j : JournaledDesk D F g) : Type 0 where
@@ -77,7 +72,7 @@ pub record IsKept {F : Type 0} (g : Ghosts F) (file : F) (last : Option Numbered
 pub record IsUncut {D F : Type 0} (view : DeskView D) (g : Ghosts F) (desk : D) (file : F) (new : D) (left : F) : Type 0 where
   pub last : Option Numbered
   pub desk_is : IsTaken view desk last new
-  pub failed : HasFailed g file left
+  pub failed : FileFailed g file left
   pub kept : IsTrue (g.is_clean left) → IsKept g file last left
   pub clean : IsTrue (g.is_clean left) → IsTrue (g.is_clean file)
 
@@ -94,5 +89,5 @@ IsStartRefused view g desk file (ForeignRow row) new left =
 IsStartRefused view g desk file NoMemory new left =
     IsUnasked g desk file new left ⊎ ((r : Numbered) × IsRefusedAt view g desk file r (Err fault.NoMemory) new left)
 IsStartRefused view g desk file Store new left =
-    (IsUnasked g desk file new left × HasFailed g file left)
+    (IsUnasked g desk file new left × FileFailed g file left)
     ⊎ (((r : Numbered) × IsRefusedAt view g desk file r (Err fault.Store) new left) ⊎ IsUncut view g desk file new left)

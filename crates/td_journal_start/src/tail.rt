@@ -1,8 +1,9 @@
 //! The end of a journal's file, and the last row in it.
 ghost use Rattle.std.specs.Prelude.{◌≡◌, ◌+◌, ◌-◌, ◌≤◌, ℕ, Err, IfOk, IfSome, IsTrue, List, None, Ok, OnOk, drop, length, slice_range, take};
 ghost use Rattle.td_desk.specs.declared.fault.Fault.{Fault};
+ghost use Rattle.td_journal.specs.Journal.{FileFailed};
 ghost use Rattle.td_journal_start.specs.Lines.{IsNoJournal};
-ghost use Rattle.td_journal_start.specs.Starts.{HasFailed, IsAsFound};
+ghost use Rattle.td_journal_start.specs.Starts.{IsAsFound};
 ghost use Rattle.td_journal_start.specs.Tails.{Fits, HasNext, IsEndOf, IsFound, IsFull};
 ghost use Rattle.td_journal_start.specs.Texts.{HasLast, Splits};
 
@@ -37,7 +38,7 @@ pub(crate) fn find_last<F: Disk>(alloc: Global, file: &mut F) -> Result<Option<F
     ensures next { IfOk result (λ found. IfSome found HasNext) }
     ensures found { IfOk result (λ found. IsTrue (F.Disk.is_clean file.new) → IfSome found (IsFound (F.Disk.seen file.old))) }
     ensures none { IfOk result (λ found. IsTrue (F.Disk.is_clean file.new) → found ≡ None → IsNoJournal (F.Disk.seen file.old)) }
-    ensures store { result ≡ Err Fault.Store → HasFailed F.Disk file.old file.new }
+    ensures store { result ≡ Err Fault.Store → FileFailed F.Disk file.old file.new }
 {
     let tail = read_tail(alloc, file)?;
     Ok(found_in(alloc, &tail)?)
@@ -51,7 +52,7 @@ fn read_tail<F: Disk>(alloc: Global, file: &mut F) -> Result<Tail, Fault>
     ensures full { IfOk result IsFull }
     ensures fits { IfOk result Fits }
     ensures end { IfOk result (λ t. IsTrue (F.Disk.is_clean file.new) → IsEndOf t (F.Disk.seen file.old)) }
-    ensures store { result ≡ Err Fault.Store → HasFailed F.Disk file.old file.new }
+    ensures store { result ≡ Err Fault.Store → FileFailed F.Disk file.old file.new }
 {
     if !file.may_be_used() {
         return Err(Fault::Store);

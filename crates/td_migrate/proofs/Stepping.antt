@@ -9,8 +9,9 @@ use Rattle.td_table_model.specs.Tables.{first_version, version_with_amounts}
 use Rattle.td_schema.specs.Layouts.{grown, newest_version, schema_of, version_of}
 use Rattle.td_schema.specs.declared.layout.Layout.{Layout}
 use Rattle.td_schema.specs.declared.layout.Layout.TheVariants.{Made1, Made2, Grown2, Made3, Grown3From2, Grown3From1}
-use Rattle.td_store_check.specs.Opened.{IsKnown, IsSchemaOf, MaySay}
+use Rattle.td_store_check.specs.Opened.{IsKnown, MaySay}
 use Rattle.td_store_rows.specs.StoreTables.{AreTreesOf, HasOfficeRow}
+use Rattle.td_store_audit_rows.specs.Versions.{IsSchemaOf}
 use Rattle.td_migrate.specs.declared.fault.MigrateFault.{MigrateFault}
 use Rattle.td_migrate.specs.Grown.{AreGrown, HoldsVersion, IsGrownFile, LeavesEmpty}
 use Rattle.td_migrate.specs.Upgraded.{AreUpgraded, LeavesAllEmpty, LeavesWithFault, MayLeaveStep, MayLeaveUpgraded, SaysNothing, TellsStep, TellsUpgrade, WasGrown, WasUpgraded}

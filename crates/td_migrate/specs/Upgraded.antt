@@ -11,9 +11,10 @@ use Rattle.td_schema.specs.declared.layout.Layout.{Layout}
 use Rattle.td_schema.specs.declared.layout.Layout.TheVariants.{Made1}
 use Rattle.td_store_rows.specs.StoreTables.{AreTreesOf, HoldsContent}
 use Rattle.td_store_audit_rows.specs.Untyped.{IsFirstBrokenUntyped}
+use Rattle.td_store_audit_rows.specs.Versions.{IsSchemaOf}
 use Rattle.td_store_check.specs.declared.fault.OpenFault.{OpenFault}
 use Rattle.td_store_check.specs.declared.fault.OpenFault.TheVariants as open_fault
-use Rattle.td_store_check.specs.Opened.{IsKnown, IsOfEarlier, IsOfUnknownVersion, IsSchemaOf, MaySay}
+use Rattle.td_store_check.specs.Opened.{IsKnown, IsOfEarlier, IsOfUnknownVersion, MaySay}
 use Rattle.td_migrate.specs.declared.fault.MigrateFault.{MigrateFault}
 use Rattle.td_migrate.specs.declared.fault.MigrateFault.TheVariants.{Damaged, NoMemory, Store, UnknownVersion}
 use Rattle.td_migrate.specs.Grown.{AreGrown, GrowsFrom, HoldsVersion, LeavesEmpty, MayLeaveGrown}

@@ -17,6 +17,7 @@ use Rattle.td_store_rows.specs.declared.meta.stored.StoredMeta.{StoredMeta}
 use Rattle.td_store_audit_rows.specs.Untyped.{IsFirstBrokenUntyped}
 use Rattle.td_store_audit_rows.specs.Ids.{HaveAllIds}
 use Rattle.td_store_audit_rows.specs.Laws.{AreKept}
+use Rattle.td_store_audit_rows.specs.Versions.{IsSchemaOf}
 use Rattle.td_store_rows.specs.StoreTables.{AreAllTyped, HasOfficeRow, HoldSoundContent, tables_in}
 use Rattle.td_store_audit_rows.specs.Scans.{TellReadable}
 use Rattle.td_store_audit_rows.specs.declared.tables.Readable.{Readable}
@@ -34,10 +35,6 @@ LacksMeta s = table_named s (codes "meta") ≡ None
 abbrev pub IsStoreSchema : Schema → Type 0
 IsStoreSchema s = (l : Layout) × (s ≡ schema_of l)
 
--- they are, of a layout of this version
-abbrev pub IsSchemaOf : ℕ → Schema → Type 0
-IsSchemaOf version s = (l : Layout) × (version_of l ≡ version) × (s ≡ schema_of l)
-
 -- what is told of a database's tables
 abbrev pub AreTold : Schema → Tables → Type 0
 AreTold s (tables.Store layout) = s ≡ schema_of layout
@@ -52,14 +49,14 @@ abbrev pub IsEarlier : ℕ → Type 0
 IsEarlier version = (first_version ≤ version) × (version < newest_version)
 
 -- it is typed, and says this version
-pub record IsOfVersion (version : ℕ) (trees : Trees) : Type 0 where
+pub record SaysVersion (version : ℕ) (trees : Trees) : Type 0 where
   pub typed : AreTyped meta_typing trees
   pub country : List ℕ
   pub row : HasOfficeRow version country trees
 
 -- it says a version that is known
 abbrev pub IsOfKnownVersion : Trees → Type 0
-IsOfKnownVersion trees = (version : ℕ) × IsKnown version × IsOfVersion version trees
+IsOfKnownVersion trees = (version : ℕ) × IsKnown version × SaysVersion version trees
 
 -- where the office's own row is typed, it says this version
 abbrev pub MaySay : ℕ → Trees → Type 0
