@@ -1,5 +1,5 @@
 -- The ways in which a report ends.
-use Rattle.std.proofs.Common.{◌≡◌, ℕ, Bool, true, false, List, [], ◌∷◌, ◌++◌, Option, None, Result, Ok, Err, IsOk, OnOk, OnErr, IfErr, refl, sym, ap, ◌∙◌, append-nil, append_assoc, inl, inr, string_bytes}
+use Rattle.std.proofs.Common.{◌≡◌, ◌⊎◌, ℕ, Bool, true, false, List, [], ◌∷◌, ◌++◌, Option, None, Result, Ok, Err, IsOk, OnOk, OnErr, IfErr, refl, sym, ap, ◌∙◌, append-nil, append_assoc, inl, inr, string_bytes}
 use Rattle.counted_io.specs.declared.counted.Counted.{Counted}
 use Rattle.counted_io.specs.Chains.{Wrote}
 use Rattle.td_desk.specs.declared.fault.Fault.{Fault}
@@ -21,9 +21,10 @@ ends_as_closed stop (Err NoMemory) ok (inr none) = (refl, inr none.0)
 
 -- what waits begins what is left to be written, and is all of it where the total was put
 begins_left : (text total waits left : List ℕ) (closed : Result (Unit {0}) ReportFault) → left ≡ waits ++ total
-    → OnOk closed (text ≡ left) → OnErr closed (text ≡ waits) → (rest : List ℕ) × (text ++ rest ≡ left) × (IsOk closed → rest ≡ [])
-begins_left text total waits left (Ok done) is ok err = ([], append-nil text ∙ ok, λ _. refl)
-begins_left text total waits left (Err why) is ok err = (total, ap (λ (l : List ℕ). l ++ total) err ∙ sym is, λ ok. cc ok)
+    → OnOk closed (text ≡ left) → OnErr closed (text ≡ waits)
+    → (rest : List ℕ) × (text ++ rest ≡ left) × (IsOk closed → rest ≡ []) × ((rest ≡ []) ⊎ (text ≡ waits))
+begins_left text total waits left (Ok done) is ok err = ([], append-nil text ∙ ok, (λ _. refl), inl refl)
+begins_left text total waits left (Err why) is ok err = (total, ap (λ (l : List ℕ). l ++ total) err ∙ sym is, (λ ok. cc ok), inr err)
 
 -- where one failed
 ends_after_write : (stop : Option ReportFault) (closed : Result (Unit {0}) ReportFault) → OnOk closed (stop ≡ None) → IfErr closed (IsStopped stop)
@@ -59,6 +60,7 @@ module _ {R W : Type 0} (contents : W → Option (List ℕ)) (old : Pieces R) (v
         wrote = wrote;
         text = left.1;
         whole = left.2;
+        waited = λ _. left.3;
         still = λ none. idle (append-nil-left text left.0 (left.1 ∙ none));
         by = ends_as_closed _ closed (both _ _ closed ok).0 why;
       }
@@ -75,6 +77,7 @@ module _ {R W : Type 0} (contents : W → Option (List ℕ)) (old : Pieces R) (v
         wrote = wrote;
         text = sym (append_assoc sent rest left.0) ∙ (ap (λ (l : List ℕ). l ++ left.0) is ∙ left.1);
         whole = λ ok. cc ok;
+        waited = λ well. cc well;
         still = λ none. idle (append-nil-left text left.0 (left.1 ∙ none));
         by = ends_after_write _ closed (both _ _ closed ok).0 why;
       }

@@ -1,5 +1,5 @@
 -- Reports that are being written.
-use Rattle.std.specs.Prelude.{◌≡◌, ◌⊎◌, ◌<◌, ◌≤◌, ℕ, ◌+◌, ◌^◌, Bool, List, [], ◌++◌, length, unwrap_or, Option, Some, None, Result, IsOk, if◌then◌else◌, string_bytes}
+use Rattle.std.specs.Prelude.{◌≡◌, ◌⊎◌, ◌<◌, ◌≤◌, ℕ, ◌+◌, ◌^◌, Bool, true, List, [], ◌++◌, length, unwrap_or, Option, Some, None, Result, IsOk, if◌then◌else◌, string_bytes}
 use Rattle.std.specs.Option.{is_none}
 use Rattle.counted_io.specs.declared.counted.Counted.{Counted}
 use Rattle.counted_io.specs.Chains.{Wrote}
@@ -58,5 +58,7 @@ module _ {R W : Type 0} (contents : W → Option (List ℕ)) where
     pub wrote : Wrote contents before after sent well
     pub text : sent ++ rest ≡ left_of old visited
     pub whole : IsOk result → rest ≡ []
+    -- where no write failed, what waited is written, also where it is no whole report
+    pub waited : well ≡ true → (rest ≡ []) ⊎ (sent ≡ string_bytes old.text)
     pub still : left_of old visited ≡ [] → after ≡ before
     pub by : EndsBy (stop_of visited old.fault) well result

@@ -3,6 +3,7 @@ ghost use Rattle.std.specs.Prelude.{◌≢◌, List, []};
 ghost use Rattle.td_commands.specs.declared.said.Said.{Said};
 ghost use Rattle.td_model.specs.Content.{IsSound};
 ghost use Rattle.td_batch.specs.Results.{act_result, acts_header, declaration_result, declarations_header};
+ghost use Rattle.td_batch.specs.Runs.{IsRunOf};
 ghost use Rattle.td_split_jobs.specs.Rows.{IsBatchAt};
 
 use std::alloc::Global;
@@ -18,7 +19,8 @@ pub fn run_declaration_share<D: Desk>(
     at: i64,
     rows: &[DeclarationRow],
 ) -> BatchRun
-    ensures { D.seen.is_clean desk.new → D.seen.is_live desk.old → IsSound (D.seen.content desk.old) → result.text.items ≢ []
+    ensures run { IsRunOf D.seen declaration_result declarations_header at rows.now result desk.old desk.new }
+    ensures share { D.seen.is_clean desk.new → D.seen.is_live desk.old → IsSound (D.seen.content desk.old) → result.text.items ≢ []
         → (said : List Said) × IsBatchAt D.seen (record { line = declaration_result; header = declarations_header; at = at })
         (D.seen.content desk.old).country rows.now (record { run = result; said = said; old = desk.old; new = desk.new }) }
 {
@@ -27,7 +29,8 @@ pub fn run_declaration_share<D: Desk>(
 
 /// The same of acts, as `run_acts` does them.
 pub fn run_act_share<D: Desk>(alloc: Global, desk: &mut D, at: i64, rows: &[ActRow]) -> BatchRun
-    ensures { D.seen.is_clean desk.new → D.seen.is_live desk.old → IsSound (D.seen.content desk.old) → result.text.items ≢ []
+    ensures run { IsRunOf D.seen act_result acts_header at rows.now result desk.old desk.new }
+    ensures share { D.seen.is_clean desk.new → D.seen.is_live desk.old → IsSound (D.seen.content desk.old) → result.text.items ≢ []
         → (said : List Said) × IsBatchAt D.seen (record { line = act_result; header = acts_header; at = at })
         (D.seen.content desk.old).country rows.now (record { run = result; said = said; old = desk.old; new = desk.new }) }
 {

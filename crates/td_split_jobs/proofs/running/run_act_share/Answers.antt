@@ -4,6 +4,9 @@ use Rattle.td_batch.specs.Results.{act_result, acts_header}
 use Rattle.td_split_jobs.proofs.Batches.{batch_at}
 use Rattle.td_split_jobs.proofs.running.run_act_share.Goals as goal
 
-pub returns : goal.returns
-returns g c =
+pub returns-clause-share : goal.returns-clause-share
+returns-clause-share g c =
     batch_at g.D.Desk.seen act_result acts_header c.args.at c.args.rows.now c.run_acts.result c.args.desk.now c.run_acts.new.desk (rw (to_z-of_z w64 c.args.at c.ranges.at) at c.run_acts.ensures)
+
+pub returns-clause-run : goal.returns-clause-run
+returns-clause-run g c = rw (to_z-of_z w64 c.args.at c.ranges.at) at c.run_acts.ensures
