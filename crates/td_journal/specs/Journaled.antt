@@ -40,11 +40,12 @@ pub record IsWaiting {D F : Type 0} {g : Ghosts F} (view : DeskView D) (old : Jo
   pub row : view.is_clean new.desk → IsSound (view.content old.desk)
       → IsNoted (next_number old.journal) (view.content old.desk) s (waiting new)
 
--- It couldn't be weighed: the journal is as it was. A fault of the store is one of the desk behind it, or the journal is shut, or the
--- moment is out of range.
+-- It couldn't be weighed: the journal is as it was. A fault of the store is one of the desk behind it, or the journal is shut. It is
+-- told of a moment out of range only where the desk isn't clean or its content isn't sound: a sound one accepts nothing then.
 pub record IsUnweighed {D F : Type 0} {g : Ghosts F} (view : DeskView D) (old : JournaledDesk D F g) (s : Stamped) (why : Fault) (new : JournaledDesk D F g) : Type 0 where
   pub journal : new.journal ≡ old.journal
-  pub store : why ≡ Store → (is_open old.journal ≡ false) ⊎ (view.weighed old.desk s (Some Store) new.desk ⊎ (moment_of s.at ≡ None))
+  pub store : why ≡ Store → (is_open old.journal ≡ false) ⊎ (view.weighed old.desk s (Some Store) new.desk
+      ⊎ ((moment_of s.at ≡ None) × (view.is_clean new.desk → ¬ IsSound (view.content old.desk))))
 
 abbrev pub weighed_at : {D F : Type 0} {g : Ghosts F} → DeskView D → JournaledDesk D F g → Stamped → Option Fault → JournaledDesk D F g → Type 0
 weighed_at view old s None new = IsWaiting view old s new
