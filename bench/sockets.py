@@ -12,10 +12,13 @@ DICE = random.SystemRandom()
 
 
 def free_port():
-    """A port that nobody has, below those that the kernel gives to connections: else one of these may take it before a program does."""
+    """A port that nobody has, below those that the kernel gives to connections: else one of these may take it before a program does. It
+    isn't listened on here: a child that another thread begins at that moment would have it too, and the program couldn't."""
     while True:
         port = DICE.randrange(15_000 + os.getpid() % STRIPES, 32_000, STRIPES)
-        with contextlib.suppress(OSError), socket.create_server(("127.0.0.1", port)):
+        with contextlib.suppress(OSError), socket.socket() as tried:
+            tried.setsockopt(socket.SOL_SOCKET, socket.SO_REUSEADDR, 1)
+            tried.bind(("127.0.0.1", port))
             return port
 
 
