@@ -5,16 +5,10 @@ use Rattle.std.specs.Io.KnownBytes.{Appends}
 use Rattle.counted_io.specs.declared.counted.Counted.{Counted}
 use Rattle.counted_io.specs.Counted.{known_bytes}
 use Rattle.counted_io.specs.Chains.{IsCutShort}
-use Rattle.td_commands.specs.declared.command.Command.{Command}
 use Rattle.td_machine.specs.Machine.{IsNotRead, Known}
 use Rattle.td_machine.specs.declared.machine.ReadError.{ReadError}
 use Rattle.td_machine.specs.declared.machine.ReadError.TheVariants.{File, NoMemory}
-use Rattle.td_words.specs.declared.words.BatchKind.{BatchKind}
-use Rattle.td_cli.specs.Batched.{IsBatchAtDesk}
 use Rattle.td_cli.specs.Exits.{IsWrittenOut}
-use Rattle.td_cli.specs.Journaled.{NamedDesk}
-use Rattle.td_cli.specs.Worked.{AnyWork}
-use Rattle.td_cli.specs.World.{Lent, World}
 
 -- a text was written whole, or as much of it as was taken
 pub told_by : {W : Type 0} (contents : W → Option (List ℕ)) (old new : Counted W) (text : List ℕ) (b : Bool)
@@ -36,9 +30,3 @@ pub told_made : {W T A : Type 0} (contents : W → Option (List ℕ)) (old new :
     → IsWrittenOut contents old new text ⊎ IsWrittenOut contents old new none
 told_made contents old new text none bytes (Ok line) is told = inl (subst (IsWrittenOut contents old new) is told)
 told_made contents old new text none bytes (Err why) is told = inr told
-
--- rows of one kind are those of the kind that was asked for
-pub same_kind : (lent : Lent) (desk : NamedDesk) (which other : BatchKind) (commands : List Command) (old new : World lent) (status : ℕ) → which ≡ other
-    → IsBatchAtDesk lent AnyWork desk which commands old new status → IsBatchAtDesk lent AnyWork desk other commands old new status
-same_kind lent desk which other commands old new status same done =
-    subst (λ (k : BatchKind). IsBatchAtDesk lent AnyWork desk k commands old new status) same done

@@ -12,6 +12,7 @@ use Rattle.td_desk.specs.View.{DeskView}
 use Rattle.td_desk.specs.declared.plain.PlainDesk.{PlainDesk}
 use Rattle.td_files.specs.Found.{FileHeld, FileSeen, over_file}
 use Rattle.td_files.specs.declared.desks.DeskFault.{DeskFault}
+use Rattle.td_jobs.specs.Batched.{commands_of, kind_of}
 use Rattle.td_jobs.specs.Desks.{BeginsEmpty, IsReady, in_memory}
 use Rattle.td_jobs.specs.Listening.{without_input}
 use Rattle.td_jobs.specs.declared.serving.ServingEnd.{ServingEnd}
@@ -160,10 +161,9 @@ module _ (lent : Lent) where
 
   batched_keeps : (desk : NamedDesk) (which : BatchKind) (csv : List ℕ) (old new : World lent) (status : ℕ) → IsCountry desk.office.country
       → IsBatched lent AnyWork desk which csv old new status → IsBatched lent KeepsHeadline desk which csv old new status
-  batched_keeps desk which csv old new status form (unread, inl none) = (unread, inl none)
-  batched_keeps desk which csv old new status form (unread, inr (bytes, read, has, inl none)) = (unread, inr (bytes, read, has, inl none))
-  batched_keeps desk which csv old new status form (unread, inr (bytes, read, has, inr (commands, are, done))) =
-      (unread, inr (bytes, read, has, inr (commands, are, batch_keeps desk which commands (record old { machine = read }) new status form done)))
+  batched_keeps desk which csv old new status form (unread, Err why, read, are, none) = (unread, Err why, read, are, none)
+  batched_keeps desk which csv old new status form (unread, Ok rows, read, are, done) =
+      (unread, Ok rows, read, are, batch_keeps desk (kind_of rows) (commands_of rows) (record old { machine = read }) new status form done)
 
   replay_keeps : (desk : NamedDesk) (numbered : List Numbered) (old new : World lent) (status : ℕ) → IsCountry desk.office.country
       → IsReplayAtDesk lent AnyWork desk numbered old new status → IsReplayAtDesk lent KeepsHeadline desk numbered old new status

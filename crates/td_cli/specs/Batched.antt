@@ -1,21 +1,19 @@
 -- A file of rows, done at a desk, and what was told of it.
-use Rattle.std.specs.Prelude.{◌≡◌, ◌⊎◌, ℕ, List, Some, None, Result, Ok, Err, if◌then◌else◌}
+use Rattle.std.specs.Prelude.{◌≡◌, ℕ, List, Some, None, Result, Ok, Err, if◌then◌else◌}
 use Rattle.td_commands.specs.declared.command.Command.{Command}
 use Rattle.td_files.specs.declared.desks.DeskFault.{DeskFault}
-use Rattle.td_batch_rows.specs.declared.fault.BatchFault.{BatchFault}
-use Rattle.td_batch_rows.specs.Rows.{Tells}
 use Rattle.td_batch.specs.declared.running.BatchRun.{BatchRun}
 use Rattle.td_batch.specs.Runs.{has_refusal}
 use Rattle.td_words.specs.declared.words.BatchKind.{BatchKind}
 use Rattle.td_jobs.specs.Jobs.{with_machine}
-use Rattle.td_jobs.specs.Batched.{HasDoneRows, batch_rows_in}
-use Rattle.td_machine.specs.Machine.{HasRead, IsNotRead}
-use Rattle.td_machine.specs.declared.machine.ReadError.{ReadError}
+use Rattle.td_jobs.specs.Batched.{AreRead, HasDoneRows, commands_of, kind_of}
+use Rattle.td_jobs.specs.declared.rows.Rows.{Rows}
+use Rattle.td_jobs.specs.declared.rows.RowsFault.{RowsFault}
 use Rattle.td_cli.specs.Journaled.{NamedDesk, WithJournal}
 use Rattle.td_cli.specs.WorkOf.{part_batched}
 use Rattle.td_cli.specs.Worked.{IfClean, Work}
 use Rattle.td_cli.specs.World.{Lent, World}
-use Rattle.td_cli.specs.Exits.{of_file, of_rows, of_read_error}
+use Rattle.td_cli.specs.Exits.{of_file, of_rows}
 use Rattle.td_cli.specs.Told.{IsResultTold, IsToldAlone}
 use Rattle.td_cli.specs.declared.exits.Cause.TheVariants.{RowsRefused}
 
@@ -39,21 +37,16 @@ module _ (lent : Lent) (Says : Work → Type 0) where
       (new.machine ≡ old.machine) old new end
       × IsBatchTold lent end old new status
 
-  -- What came of the bytes of a file. They aren't wholly rows: then nothing was printed, the clock wasn't asked, and neither the desk's
-  -- file nor the other was opened. Or they are these rows, which were done at the desk.
-  abbrev pub AreRowsBatched : NamedDesk → BatchKind → List ℕ → World lent → World lent → ℕ → Type 0
-  AreRowsBatched desk which bytes old new status =
-      ((why : BatchFault) × Tells (batch_rows_in which bytes) why × (new.machine ≡ old.machine)
-      × (new.file ≡ old.file) × (new.other ≡ old.other) × IsToldAlone lent (Some (of_rows why)) old new status)
-      ⊎ ((commands : List Command) × (batch_rows_in which bytes ≡ Ok commands)
-      × IsBatchAtDesk desk which commands old new status)
+  -- What came of a file that was read so. There are no rows, for this fault, which was told: then nothing was printed, the clock wasn't
+  -- asked, and neither the desk's file nor the other was opened. Or there are these rows, which were done at the desk.
+  abbrev pub AreRowsBatched : NamedDesk → Result Rows RowsFault → World lent → World lent → ℕ → Type 0
+  AreRowsBatched desk (Ok rows) old new status = IsBatchAtDesk desk (kind_of rows) (commands_of rows) old new status
+  AreRowsBatched desk (Err why) old new status =
+      (new.machine ≡ old.machine) × (new.file ≡ old.file) × (new.other ≡ old.other) × IsToldAlone lent (Some (of_rows why)) old new status
 
-  -- The file of rows at this path was done. It couldn't be read: then nothing was printed, and no other file was opened. Or these
-  -- are its bytes, and this came of them, from the machine on as the reading left it. The input isn't read.
+  -- The file of rows at this path was read, and this came of it, from the machine on as the reading left it. The input isn't read.
   abbrev pub IsBatched : NamedDesk → BatchKind → List ℕ → World lent → World lent → ℕ → Type 0
   IsBatched desk which csv old new status =
       (new.input ≡ old.input)
-      × (((why : ReadError) × IsNotRead lent.machine.known csv old.machine new.machine why
-      × (new.file ≡ old.file) × (new.other ≡ old.other) × IsToldAlone lent (Some (of_read_error why)) old new status)
-      ⊎ ((bytes : List ℕ) × (read : lent.Machine) × HasRead lent.machine.known csv old.machine bytes read
-      × AreRowsBatched desk which bytes (record old { machine = read }) new status))
+      × (rows : Result Rows RowsFault) × (read : lent.Machine) × AreRead lent.machine.known csv which old.machine read rows
+      × AreRowsBatched desk rows (record old { machine = read }) new status

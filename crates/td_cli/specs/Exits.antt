@@ -10,7 +10,6 @@ use Rattle.http_wire.specs.declared.stream.StreamEnd.TheVariants as stream
 use Rattle.td_desk.specs.declared.fault.Fault.{Fault}
 use Rattle.td_desk.specs.declared.fault.Fault.TheVariants as stop
 use Rattle.td_base.specs.Codes.{holder_text}
-use Rattle.td_batch_rows.specs.declared.fault.BatchFault.{BatchFault}
 use Rattle.td_batch_rows.specs.declared.fault.BatchFault.TheVariants as rows
 use Rattle.td_report_pieces.specs.declared.fault.ReportFault.{ReportFault}
 use Rattle.td_report_pieces.specs.declared.fault.ReportFault.TheVariants as report
@@ -27,6 +26,8 @@ use Rattle.td_replay.specs.declared.following.FollowFault.{FollowFault}
 use Rattle.td_replay.specs.declared.following.FollowFault.TheVariants as follow
 use Rattle.td_machine.specs.declared.machine.ReadError.{ReadError}
 use Rattle.td_machine.specs.declared.machine.ReadError.TheVariants as read_error
+use Rattle.td_jobs.specs.declared.rows.RowsFault.{RowsFault}
+use Rattle.td_jobs.specs.declared.rows.RowsFault.TheVariants as no_rows
 use Rattle.td_jobs.specs.declared.serving.ServingEnd.{ServingEnd}
 use Rattle.td_jobs.specs.declared.serving.ServingEnd.TheVariants as serving
 use Rattle.td_cli.specs.declared.exits.Cause.{Cause}
@@ -139,14 +140,15 @@ abbrev pub of_standby : Result ServingEnd FollowFault → Option Cause
 of_standby (Ok end) = of_serving end
 of_standby (Err why) = Some (of_follow why)
 
--- why a file of rows wasn't read, why its bytes aren't rows, and why a batch stopped at a row
+-- why a file of the machine wasn't read, why there are no rows of one, and why a batch stopped at a row
 abbrev pub of_read_error : ReadError → Cause
 of_read_error read_error.File = Of File
 of_read_error read_error.NoMemory = Of NoMemory
 
-abbrev pub of_rows : BatchFault → Cause
-of_rows (rows.BadCsv row column) = BadCsv row column
-of_rows rows.NoMemory = Of NoMemory
+abbrev pub of_rows : RowsFault → Cause
+of_rows (no_rows.File why) = of_read_error why
+of_rows (no_rows.Bytes (rows.BadCsv row column)) = BadCsv row column
+of_rows (no_rows.Bytes rows.NoMemory) = Of NoMemory
 
 abbrev pub of_stop : Fault → Cause
 of_stop stop.NoMemory = Of NoMemory

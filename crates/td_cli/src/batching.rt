@@ -9,7 +9,7 @@ ghost use Rattle.td_cli.specs.World.{IsLentStill, OpensNoFile, lent_by, world_of
 ghost use Rattle.td_cli.specs.declared.exits.Cause.TheVariants.{RowsRefused};
 
 use crate::context::JobContext;
-use crate::exits::{Cause, fault, of_file, of_read_error, of_rows};
+use crate::exits::{Cause, fault, of_file, of_rows};
 use std::alloc::Global;
 use std::io::{Read, Write};
 use td_batch::BatchRun;
@@ -44,11 +44,7 @@ where
             AnyWork (named_desk office records.now (option_map string_bytes journal.now)) kind csv.now
             (world_of _ self.old) (world_of _ self.new) result }
     {
-        let bytes = match self.machine.read_file(alloc, csv) {
-            Ok(bytes) => bytes,
-            Err(why) => return fault(alloc, of_read_error(why), self.errors),
-        };
-        match Rows::read(alloc, kind, &bytes) {
+        match Rows::read(alloc, self.machine, kind, csv) {
             Ok(rows) => self.do_rows(alloc, office, records, journal, rows),
             Err(why) => fault(alloc, of_rows(why), self.errors),
         }

@@ -11,7 +11,7 @@ use td_batch::BatchFault;
 use td_desk::Fault;
 use td_files::{DeskFault, JoinRefusal, OpenFault};
 use td_http::StreamEnd;
-use td_jobs::ServingEnd;
+use td_jobs::{RowsFault, ServingEnd};
 use td_journal_jobs::{FollowFault, StartFault};
 use td_journal_rows::JournalFault;
 use td_machine::ReadError;
@@ -171,7 +171,7 @@ pub(crate) fn of_standby(end: Result<ServingEnd, FollowFault>) -> Option<Cause>
     }
 }
 
-/// Why a file of rows wasn't read.
+/// Why a file of the machine wasn't read.
 pub(crate) fn of_read_error(why: ReadError) -> Cause
     ensures { result ≡ of_read_error why }
 {
@@ -181,13 +181,14 @@ pub(crate) fn of_read_error(why: ReadError) -> Cause
     }
 }
 
-/// Why its bytes aren't rows.
-pub(crate) fn of_rows(why: BatchFault) -> Cause
+/// Why there are no rows of a file.
+pub(crate) fn of_rows(why: RowsFault) -> Cause
     ensures { result ≡ of_rows why }
 {
     match why {
-        BatchFault::BadCsv { row, column } => Cause::BadCsv { row, column },
-        BatchFault::NoMemory => Cause::Of(Word::NoMemory),
+        RowsFault::File(why) => of_read_error(why),
+        RowsFault::Bytes(BatchFault::BadCsv { row, column }) => Cause::BadCsv { row, column },
+        RowsFault::Bytes(BatchFault::NoMemory) => Cause::Of(Word::NoMemory),
     }
 }
 

@@ -1,16 +1,17 @@
 //! Desks over files, made and opened.
 ghost use Rattle.std.specs.Prelude.{◌≡◌, true, false, Some, IfOk, IfErr};
+ghost use Rattle.sqlite.specs.Files.{file_state};
+ghost use Rattle.typed_sql.specs.Outside.{CrashLeavesShown};
 ghost use Rattle.td_files.specs.Found.{FoundAt, HasNoDesk, HasNoNewDesk, IsClean, IsCreatedDesk, IsKeptDesk, IsOpenedDesk, IsOpeningFault};
 ghost use Rattle.td_files.specs.declared.desks.DeskFault.TheVariants as fault;
 
-use crate::files::OneFile;
+use crate::files::{FileConnection, OneFile};
 use sqlite::{Error, ErrorCode, FileStore};
 use std::alloc::Global;
 use td_base::Country;
 use td_machine::{Drive, OpenFileError};
-use td_store::{OpenFault, Refused, SqlDesk, what_a_crash_leaves_opens};
+use td_store::{OpenFault, Refused, SqlDesk};
 use thiserror::Error as AsError;
-use typed_sql::see_settled;
 
 /// A desk over a file of a drive.
 pub type FileDesk<V> = SqlDesk<FileStore<<V as Drive>::Disk>>;
@@ -86,11 +87,27 @@ impl<V: Drive> OneFile<V, <V as Drive>::Disk> {
             Ok(conn) => conn,
             Err(why) => return Err(why),
         };
-        see_settled(&conn);
-        what_a_crash_leaves_opens::<FileStore<<V as Drive>::Disk>>();
         match SqlDesk::open(alloc, conn, country) {
             Ok(desk) => Ok(desk),
             Err(refused) => Err(self.turn_away(refused)),
+        }
+    }
+
+    // The connection to a desk's file, which is opened as `open_desk` does it, with the same errors.
+    pub(crate) fn connect(
+        &mut self,
+        alloc: Global,
+        country: Country,
+        path: &str,
+    ) -> Result<FileConnection<V>, DeskFault>
+        ensures kept { IfOk result (λ conn. FoundAt V.known path.now false self.old self.new (λ image. IsClean conn → IsOpenedDesk image country conn)) }
+        ensures ended { IfOk result (λ conn. conn.in_transaction ≡ false) }
+        ensures settled { IfOk result (λ conn. CrashLeavesShown (file_state conn)) }
+        ensures refused { IfErr result (HasNoDesk V.known country path.now self.old self.new) }
+    {
+        match self.open_desk(alloc, country, path) {
+            Ok(desk) => Ok(desk.close()),
+            Err(why) => Err(why),
         }
     }
 
@@ -112,7 +129,6 @@ impl<V: Drive> OneFile<V, <V as Drive>::Disk> {
             Ok(conn) => conn,
             Err(why) => return Err(why),
         };
-        see_settled(&conn);
         match SqlDesk::create(conn, country) {
             Ok(desk) => Ok(desk),
             Err(refused) => Err(self.turn_away(refused)),

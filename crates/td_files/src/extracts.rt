@@ -54,7 +54,6 @@ impl<N: Drive> OneFile<N, <N as Drive>::Disk> {
             Ok(conn) => conn,
             Err(why) => return Err(why),
         };
-        see_settled(&to);
         let result = extract(alloc, from, &mut to, country, first, last);
         self.hold(to);
         match result {
@@ -83,11 +82,10 @@ impl<V: Drive> OneFile<V, <V as Drive>::Disk> {
         ensures { IsExtracted (file_at V.known path.now) (file_at N.known new_path.now)
             (record { country = country; first = first; last = last }) self.old self.new new.old new.new result }
     {
-        let desk = match self.open_desk(alloc, country, path) {
-            Ok(desk) => desk,
+        let mut from = match self.connect(alloc, country, path) {
+            Ok(from) => from,
             Err(why) => return Err(why),
         };
-        let mut from = desk.close();
         let result = new.make_part(alloc, country, new_path, &mut from, first, last);
         self.hold(from);
         result

@@ -1,5 +1,7 @@
 //! The file in which a desk's records stand, opened by its path.
 ghost use Rattle.std.specs.Prelude.{◌≡◌, false, true, None, Some, IfErr, IfOk, IfSome, MatchOption};
+ghost use Rattle.sqlite.specs.Files.{file_state};
+ghost use Rattle.typed_sql.specs.Outside.{CrashLeavesShown};
 ghost use Rattle.td_files.specs.Closed.{IsClosedFrom};
 ghost use Rattle.td_files.specs.Found.{FoundAt, HasNoJournal, IsConnected, IsJournalAt, IsOpeningFault, IsUnopened};
 
@@ -8,6 +10,7 @@ use sqlite::{Connection, Error, ErrorCode, FileStore, Files, Leftover};
 use sqlite_disk::Disk;
 use std::alloc::Global;
 use td_machine::{Drive, OpenedFile};
+use typed_sql::see_settled;
 
 /// One file that a program opens, and what is left of it after a job.
 #[derive(Drop)]
@@ -48,7 +51,8 @@ impl<V: Drive> OneFile<V, <V as Drive>::Disk> {
     }
 
     // Opens the database in the file at the path. With `make` a file that isn't there is made; else it has to be there. Beside a file
-    // that is no database no empty log is left that wasn't there.
+    // that is no database no empty log is left that wasn't there. What a crash leaves is seen here, once for all that open a file: each
+    // call at the type of a file of a drive takes long to prove.
     pub(crate) fn open(
         &mut self,
         alloc: Global,
@@ -57,6 +61,7 @@ impl<V: Drive> OneFile<V, <V as Drive>::Disk> {
     ) -> Result<FileConnection<V>, DeskFault>
         ensures opened { IfOk result (λ conn. FoundAt V.known path.now make self.old self.new (IsConnected conn)) }
         ensures ended { IfOk result (λ conn. conn.in_transaction ≡ false) }
+        ensures settled { IfOk result (λ conn. CrashLeavesShown (file_state conn)) }
         ensures unopened { IfErr result (IsUnopened V.known path.now make self.old self.new) }
     {
         let OpenedFile { files, options } = match self.drive.open(path, make) {
@@ -64,7 +69,10 @@ impl<V: Drive> OneFile<V, <V as Drive>::Disk> {
             Err(why) => return Err(refused_by(why)),
         };
         match Connection::open_files(alloc, files, options) {
-            Ok(conn) => Ok(conn),
+            Ok(conn) => {
+                see_settled(&conn);
+                Ok(conn)
+            }
             Err((error, left)) => Err(self.leave(&error, left)),
         }
     }

@@ -50,11 +50,10 @@ impl<O: Drive> OneFile<O, <O as Drive>::Disk> {
         ensures put { IsPutInto T.Store (file_at O.known path.now) country self.old self.new to.old to.new result }
     {
         see_settled(to);
-        let desk = match self.open_desk(alloc, country, path) {
-            Ok(desk) => desk,
+        let mut from = match self.connect(alloc, country, path) {
+            Ok(from) => from,
             Err(why) => return Err(JoinRefusal::File(why)),
         };
-        let mut from = desk.close();
         let result = join(alloc, &mut from, to);
         self.hold(from);
         match result {
@@ -79,11 +78,10 @@ impl<V: Drive> OneFile<V, <V as Drive>::Disk> {
     ) -> Result<(), JoinRefusal>
         ensures { IsJoined (file_at V.known path.now) (file_at O.known other_path.now) country self.old self.new other.old other.new result }
     {
-        let desk = match self.open_desk(alloc, country, path) {
-            Ok(desk) => desk,
+        let mut to = match self.connect(alloc, country, path) {
+            Ok(to) => to,
             Err(why) => return Err(JoinRefusal::File(why)),
         };
-        let mut to = desk.close();
         let result = other.put_into(alloc, country, other_path, &mut to);
         self.hold(to);
         result

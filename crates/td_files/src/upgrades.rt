@@ -9,7 +9,6 @@ use std::alloc::Global;
 use td_machine::Drive;
 use td_migrate::{MigrateFault, upgrade};
 use td_store::OpenFault;
-use typed_sql::see_settled;
 
 // What a file is refused for that isn't brought to the newest version.
 fn refused(why: MigrateFault) -> DeskFault
@@ -35,7 +34,6 @@ impl<V: Drive> OneFile<V, <V as Drive>::Disk> {
             Ok(conn) => conn,
             Err(why) => return Err(why),
         };
-        see_settled(&conn);
         let result = upgrade(alloc, &mut conn);
         self.hold(conn);
         match result {

@@ -11,5 +11,5 @@ mod serving;
 pub use checking::Checking;
 pub use job::{DeskJob, in_memory};
 pub use piping::Piping;
-pub use rows::Rows;
+pub use rows::{Rows, RowsFault};
 pub use serving::ServingEnd;

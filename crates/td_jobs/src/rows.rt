@@ -1,10 +1,11 @@
-//! The rows of a batch, done at a desk.
+//! The rows of a batch, read from a file of the machine and done at a desk.
 ghost use Rattle.std.specs.Prelude.{◌≡◌, Ok, IfErr, IfOk};
 ghost use Rattle.td_batch_rows.specs.Rows.{Tells};
 ghost use Rattle.td_batch.specs.Runs.{IsRunOf};
-ghost use Rattle.td_jobs.specs.Batched.{HasDoneRows, commands_of, header_of, kind_of, result_line, batch_rows_in};
+ghost use Rattle.td_jobs.specs.Batched.{AreRead, HasDoneRows, commands_of, header_of, kind_of, result_line, batch_rows_in};
 ghost use Rattle.td_jobs.specs.Desks.{IsMomentBy};
 ghost use Rattle.td_jobs.specs.Jobs.{with_machine};
+ghost use Rattle.td_jobs.specs.declared.rows.RowsFault.TheVariants.{File, Bytes};
 
 use crate::job::DeskJob;
 use std::alloc::Global;
@@ -15,7 +16,7 @@ use td_batch::{
     run_declarations,
 };
 use td_desk::Desk;
-use td_machine::Machine;
+use td_machine::{Machine, ReadError};
 use td_words::BatchKind;
 
 /// The rows of a file.
@@ -27,10 +28,48 @@ pub enum Rows {
     Acts(Vec<ActRow>),
 }
 
+/// Why there are no rows of a file.
+#[derive(Clone, Copy, Debug, PartialEq, Eq)]
+pub enum RowsFault {
+    /// The file wasn't read.
+    File(ReadError),
+    /// Its bytes aren't wholly rows, or there was no memory for the rows.
+    Bytes(BatchFault),
+}
+
+impl From<ReadError> for RowsFault {
+    ghost from_gives = { λ why fault. fault ≡ File why };
+
+    fn from(why: ReadError) -> RowsFault {
+        RowsFault::File(why)
+    }
+}
+
+impl From<BatchFault> for RowsFault {
+    ghost from_gives = { λ why fault. fault ≡ Bytes why };
+
+    fn from(why: BatchFault) -> RowsFault {
+        RowsFault::Bytes(why)
+    }
+}
+
 impl Rows {
-    /// The rows of that kind that the bytes of a file are. An error: they aren't wholly rows, and it tells the first bad row
-    /// and column; or there was no memory for the rows.
-    pub fn read(alloc: Global, kind: BatchKind, bytes: &[u8]) -> Result<Rows, BatchFault>
+    /// The rows of that kind in the machine's file at a path. `File`: it wasn't read; `Bytes`: its bytes aren't wholly rows, and the
+    /// fault tells the first bad row and column, or there was no memory for the rows.
+    pub fn read<M: Machine>(
+        alloc: Global,
+        machine: &mut M,
+        kind: BatchKind,
+        path: &str,
+    ) -> Result<Rows, RowsFault>
+        ensures read { AreRead M.known path.now kind machine.old machine.new result }
+    {
+        let bytes = machine.read_file(alloc, path)?;
+        Ok(Rows::of_bytes(alloc, kind, &bytes)?)
+    }
+
+    // The rows of that kind that the bytes of a file are.
+    fn of_bytes(alloc: Global, kind: BatchKind, bytes: &[u8]) -> Result<Rows, BatchFault>
         ensures rows { IfOk result (λ rows. (kind_of rows ≡ kind) × (batch_rows_in kind bytes.now ≡ Ok (commands_of rows))) }
         ensures bad { IfErr result (Tells (batch_rows_in kind bytes.now)) }
     {

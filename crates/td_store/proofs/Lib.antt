@@ -1,4 +1,4 @@
-mod Acknowledged
+pub mod Acknowledged
 mod Calls
 pub mod Holding
 mod Listed

@@ -47,7 +47,7 @@ returns-in-Err-create-clause-refused g c =
             let was = clean_before found (file_state refused.connection) _ told.crash clean in
             let opened = (connected was).0 in
             unmade_for image (empty_content c.args.country) (MayLeaveEmpty c.args.country found) c.in-Ok.conn refused.connection refused.fault
-            (found_there image found opened (connected was).1) opened.0.is_open c.see_settled.ensures.settled told.crash
+            (found_there image found opened (connected was).1) opened.0.is_open c.in-Ok.ensures.settled told.crash
             (λ trees may. may.1)
             told.same told.settled told.fault told.taken clean,
       ),

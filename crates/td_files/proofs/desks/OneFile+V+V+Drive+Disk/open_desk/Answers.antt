@@ -1,5 +1,6 @@
-use Rattle.sqlite.specs.Files.{file_state, image_of}
+use Rattle.sqlite.specs.Files.{file_state, image_of, over_files}
 use Rattle.std.proofs.Common.{inr, subst, sym}
+use Rattle.td_store.proofs.Acknowledged.{opens_again}
 use Rattle.td_files.specs.Found.{IsFoundIn}
 use Rattle.td_files.proofs.Opening.{clean_before, found_there, refused_for}
 use Rattle.td_files.proofs.desks.OneFile+V+V+Drive+Disk.open_desk.Goals as goal
@@ -43,8 +44,8 @@ returns-in-Err-open-clause-refused g c =
             let was = clean_before found (file_state refused.connection) _ told.crash clean in
             let opened = (connected was).0 in
             refused_for image c.args.country found refused.fault refused.connection
-            (found_there image found opened (connected was).1) opened.0.is_open c.see_settled.ensures.settled told.crash
+            (found_there image found opened (connected was).1) opened.0.is_open c.in-Ok.ensures.settled told.crash
             told.handed told.settled told.unknown told.earlier told.other told.broken told.sound
-            (λ content trees. c.what_a_crash_leaves_opens.ensures c.in-Ok.conn content opened.1 trees) clean,
+            (λ content trees. opens_again over_files c.in-Ok.conn content opened.1 trees) clean,
       ),
     )

@@ -44,7 +44,7 @@ returns-in-Err-result-clause-made g c =
             let was = clean_before found (file_state c.extract-result.new.to) may after.crash clean in
             let opened = (connected was).0 in
             unmade_for (image_of g.N.Disk.Disk files) (content_between c.args.first c.args.last whole) may c.in-Ok.conn c.extract-result.new.to c.refused.result
-            (found_there (image_of g.N.Disk.Disk files) found opened (connected was).1) opened.0.is_open c.see_settled-2.ensures.settled after.crash
+            (found_there (image_of g.N.Disk.Disk files) found opened (connected was).1) opened.0.is_open c.in-Ok.ensures.settled after.crash
             (λ trees left. left.1 seen whole holds at) after.err after.settled c.refused.ensures.cause
             (λ some. let told = after.taken some in (c.refused.ensures.store (let same = told.0 in cc), told.2)) clean,
       ),

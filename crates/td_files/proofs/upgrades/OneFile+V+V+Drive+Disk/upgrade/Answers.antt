@@ -18,7 +18,7 @@ returns-in-Ok-result g c =
             let opened = (connected was).0 in
             shows_upgrade (image_of g.V.Disk.Disk files) found c.upgrade-result.new.conn _
             (found_there (image_of g.V.Disk.Disk files) found opened (connected was).1)
-            opened.0.is_open c.see_settled.ensures.settled (λ whole. (after.shown whole).1) after.told after.left after.reached after.settled clean,
+            opened.0.is_open c.in-Ok.ensures.settled (λ whole. (after.shown whole).1) after.told after.left after.reached after.settled clean,
       ),
     )
 
@@ -41,7 +41,7 @@ returns-in-Err-result g c =
               let opened = (connected was).0 in
               shows_upgrade (image_of g.V.Disk.Disk files) found c.upgrade-result.new.conn _
               (found_there (image_of g.V.Disk.Disk files) found opened (connected was).1)
-              opened.0.is_open c.see_settled.ensures.settled (λ whole. tt) after.told after.left after.reached after.settled clean,
+              opened.0.is_open c.in-Ok.ensures.settled (λ whole. tt) after.told after.left after.reached after.settled clean,
         ),
       ),
     )
