@@ -264,7 +264,9 @@ def removed(walk):
     # A reload is done a moment after it was asked for.
     walk.types("for _ in $(seq 50); do curl -sS https://localhost/; [ $? -ne 7 ] || exit 7; sleep 0.2; done", status=7,
                what="nginx has no site for it")
-    walk.types("apt remove transit-desk", what="the package is removed")
+    broken = "/run/systemd/system/transit-desk-feeds.service.d"
+    walk.types(f"mkdir -p {broken} && printf '[Service]\\nExecStart=\\n' >{broken}/x.conf && systemctl daemon-reload", what="a unit can't be read")
+    walk.types("apt remove transit-desk", what="the package is removed all the same")
     walk.types(f"! systemctl is-active --quiet transit-desk && ! curl -s {DESK}", what="nothing runs, and nobody answers")
     walk.types("find /etc/systemd -name 'transit-desk*' | wc -l", "0", what="nothing is enabled")
     words = ("/etc/default/transit-desk /etc/default/transit-desk-timers /etc/default/transit-desk-feeds /etc/nftables.d/transit-desk.nft "
