@@ -266,7 +266,11 @@ def removed(walk):
                what="nginx has no site for it")
     broken = "/run/systemd/system/transit-desk-feeds.service.d"
     walk.types(f"mkdir -p {broken} && printf '[Service]\\nExecStart=\\n' >{broken}/x.conf && systemctl daemon-reload", what="a unit can't be read")
+    walk.types("sed -i 's#^BACKUPS=.*#BACKUPS=/none#' /etc/default/transit-desk-timers && ! systemctl start transit-desk-backup",
+               what="a backup fails, and waits to begin again")
     walk.types("apt remove transit-desk", what="the package is removed all the same")
+    walk.types(f"rm -r {broken} && systemctl daemon-reload && systemctl list-units --all --no-legend 'transit-desk*' | wc -l", "0",
+               what="and no unit of it is left")
     walk.types(f"! systemctl is-active --quiet transit-desk && ! curl -s {DESK}", what="nothing runs, and nobody answers")
     walk.types("find /etc/systemd -name 'transit-desk*' | wc -l", "0", what="nothing is enabled")
     words = ("/etc/default/transit-desk /etc/default/transit-desk-timers /etc/default/transit-desk-feeds /etc/nftables.d/transit-desk.nft "
