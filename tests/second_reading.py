@@ -298,6 +298,10 @@ class Desk:
                 rows.append(f"{grn} {number:06} {g['cover']:>3} {amounts}{g['ends'] or '-'}\n")
         return f"GUARANTEES\n{''.join(rows)}TOTAL {len(rows)}\n"
 
+    def reports(self, day):
+        """Each report on a day: the words that ask for it, and its text."""
+        return [(["overdue", "--day", day_text(day)], self.overdue(day)), (["guarantees"], self.all_guarantees())]
+
 
 # The paths, in parts: H, G and M stand for a holder, a GRN and an MRN. Of each its methods, and the command and the fields of each.
 ROUTES = {
