@@ -65,8 +65,8 @@ pub record IsDeclared (country : List ℕ) (H : ℕ) (account : Account) (row : 
   pub fresh : movement_by_lrn m.lrn account.movements ≡ None
   pub accepted : m.state ≡ Accepted
 
--- the holder's row with a moment, and a movement of the holder's in a new state, in which it has the days and offices
--- of that state, and every guarantee covers what is in use
+-- the holder's row with a moment, and a movement of the holder's in a new state, into which it comes by a move, in which
+-- it has the days and offices of that state, and every guarantee covers what is in use
 pub record IsMoved (account : Account) (row : HolderRow) (status : NewStatus) : Type 0 where
   pub old : HolderRow
   pub known : account.holder ≡ Some old
@@ -74,6 +74,8 @@ pub record IsMoved (account : Account) (row : HolderRow) (status : NewStatus) : 
   pub next : row ≡ record old { last_at = row.last_at }
   pub movement : Movement
   pub found : movement_by_mrn status.mrn account.movements ≡ Some movement
+  pub move : Move
+  pub leads : state_after movement.state move ≡ Some status.state
   pub keeps : IsStatus movement → IsStatus (with_status status movement)
   pub cover : ReferencesDiffer account → AllPairs (λ l m. l.grn ≢ m.grn) movement.lines → AllByRecursion (IsCovered account.movements) account.guarantees → AllByRecursion (IsCovered (map (moved status) account.movements)) account.guarantees
 
@@ -90,6 +92,12 @@ pub record IsSaidOf (country : List ℕ) (H : ℕ) (account : Account) (row : Ho
   pub keeps : (n : ℕ) → IsGuaranteeRow country H n guarantee → IsGuaranteeRow country H n (made guarantee)
   pub cover : IsCovered account.movements guarantee → IsCovered account.movements (made guarantee)
 
+-- a code that is added is none that the guarantee has
+pub record IsNewCode (gs : List Guarantee) (grn code : List ℕ) : Type 0 where
+  pub guarantee : Guarantee
+  pub found : guarantee_by_grn grn gs ≡ Some guarantee
+  pub new : stands code guarantee.codes ≡ false
+
 -- the rows of a change follow on H's account
 abbrev pub IsFor : List ℕ → ℕ → Account → Change → Type 0
 IsFor country H account change.Nothing = Unit {0}
@@ -98,7 +106,8 @@ IsFor country H account (change.Opened row g) = IsOpened country H account.holde
 IsFor country H account (change.Declared row m) = IsDeclared country H account row m
 IsFor country H account (change.Moved row status) = IsMoved account row status
 IsFor country H account (change.TermsSet row terms) = IsSaidOf country H account row terms.grn (with_terms terms)
-IsFor country H account (change.CodeAdded row grn code) = IsSaidOf country H account row grn (coded code)
+IsFor country H account (change.CodeAdded row grn code) =
+    IsSaidOf country H account row grn (coded code) × IsNewCode account.guarantees grn code
 IsFor country H account (change.CodeRemoved row grn code) = IsSaidOf country H account row grn (uncoded code)
 
 -- true and true

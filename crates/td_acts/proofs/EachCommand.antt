@@ -1,5 +1,5 @@
 -- What holds of each command, case by case: all that a further command adds to the proofs of the model.
-use Rattle.std.proofs.Common.{◌≡◌, ℕ, ◌+◌, ◌<◌, true, List, length, ◌++◌, Option, Some, None, refl, ap, subst, arith, inl}
+use Rattle.std.proofs.Common.{◌≡◌, ℕ, ◌+◌, ◌<◌, true, List, length, ◌++◌, Option, Some, None, refl, ◌∙◌, ap, subst, arith, inl}
 use Rattle.std.specs.Prelude.{map, not, nat_lt, nat_le}
 use Rattle.std.proofs.lemmas.Bool.{false≢true}
 use Rattle.std.proofs.lemmas.Bool.Decides.{nat_tests}
@@ -225,6 +225,8 @@ rows_are_for H country (Some row) gs ms t (Ie014 h mrn) own proper moment accept
       next = refl;
       movement = m;
       found = facts.1;
+      move = Cancel;
+      leads = facts.3 ∙ ap Some from.0;
       keeps = λ is. record { days = subst (λ (s : State). HasDaysOf s m) from.1 is.days; limit = is.limit; arrival = is.arrival; actual = is.actual };
       cover = λ differ distinct covered. no_more_moved (new_state mrn Cancelled) ms m differ.mrns facts.1 (λ begins. absurd (false≢true begins)) gs covered;
     }
@@ -233,18 +235,20 @@ rows_are_for H country (Some row) gs ms t (AddCode h grn code) own proper moment
     let facts = named_facts NoHolder row t (guarantee_by_grn grn gs) _ accepted in
     let g = facts.0 in
     let known = passed CodeKnown (stands code g.codes) _ facts.2 in
-    let full = passed CodesFull (nat_le most_codes (length g.codes)) _ known.1 in
-    record {
-      old = row;
-      known = refl;
-      moment = moment;
-      next = refl;
-      guarantee = g;
-      found = facts.1;
-      same = λ g. refl;
-      keeps = λ n is. record { grn = is.grn; reference = is.reference; cover = is.cover; ends = is.ends; codes = codes_with code g.codes known.0 full.0 proper.2 is.codes };
-      cover = λ covered. covered;
-    }
+    let full = passed CodesFull (nat_le most_codes (length g.codes)) _ known.1 in (
+      record {
+        old = row;
+        known = refl;
+        moment = moment;
+        next = refl;
+        guarantee = g;
+        found = facts.1;
+        same = λ g. refl;
+        keeps = λ n is. record { grn = is.grn; reference = is.reference; cover = is.cover; ends = is.ends; codes = codes_with code g.codes known.0 full.0 proper.2 is.codes };
+        cover = λ covered. covered;
+      },
+      record { guarantee = g; found = facts.1; new = known.0 },
+    )
 rows_are_for H country None gs ms t (RemoveCode h grn code) own proper moment accepted = cc
 rows_are_for H country (Some row) gs ms t (RemoveCode h grn code) own proper moment accepted =
     let facts = named_facts NoHolder row t (guarantee_by_grn grn gs) _ accepted in
@@ -276,6 +280,8 @@ rows_are_for H country (Some row) gs ms t (Ie029 mrn limit) own proper moment ac
       next = refl;
       movement = m;
       found = facts.1;
+      move = Release;
+      leads = facts.3 ∙ ap Some from.0;
       keeps = λ is. record { days = (refl, (subst (λ (s : State). HasDaysOf s m) from.1 is.days).1); limit = proper.1; arrival = is.arrival; actual = is.actual };
       cover = λ differ distinct covered. covered_when_released account (day_of_moment t) (record (new_state mrn Released) { limit = Some limit }) m differ facts.1 distinct fine covered;
     }
@@ -291,6 +297,8 @@ rows_are_for H country (Some row) gs ms t (Ie007 mrn office) own proper moment a
       next = refl;
       movement = m;
       found = facts.1;
+      move = Arrive;
+      leads = facts.3 ∙ ap Some from.0;
       keeps = λ is. record { days = (from.2 m is.days, refl, refl); limit = is.limit; arrival = day_is t moment; actual = proper.1 };
       cover = λ differ distinct covered. no_more_moved (record (new_state mrn Arrived) { arrival = Some (day_of_moment t); actual = Some office }) ms m differ.mrns facts.1 (λ begins. from.1) gs covered;
     }
@@ -306,6 +314,8 @@ rows_are_for H country (Some row) gs ms t (Ie018 mrn control) own proper moment 
       next = refl;
       movement = m;
       found = facts.1;
+      move = Judge control;
+      leads = facts.3 ∙ ap Some from.0;
       keeps = λ is. record { days = judged_days control mrn m (from.2 m is.days); limit = is.limit; arrival = is.arrival; actual = is.actual };
       cover = λ differ distinct covered. no_more_moved (new_state mrn (judged control)) ms m differ.mrns facts.1 (λ begins. from.1) gs covered;
     }
@@ -321,6 +331,8 @@ rows_are_for H country (Some row) gs ms t (Ie045 mrn cause) own proper moment ac
       next = refl;
       movement = m;
       found = facts.1;
+      move = WriteOff cause;
+      leads = facts.3 ∙ ap Some from.0;
       keeps = λ is. record { days = from.1 m is.days; limit = is.limit; arrival = is.arrival; actual = is.actual };
       cover = λ differ distinct covered. no_more_moved (new_state mrn WrittenOff) ms m differ.mrns facts.1 (λ begins. absurd (false≢true begins)) gs covered;
     }
@@ -336,6 +348,8 @@ rows_are_for H country (Some row) gs ms t (Ie140 mrn) own proper moment accepted
       next = refl;
       movement = m;
       found = facts.1;
+      move = Enquire;
+      leads = facts.3 ∙ ap Some from.0;
       keeps = λ is. record { days = subst (λ (s : State). HasDaysOf s m) from.1 is.days; limit = is.limit; arrival = is.arrival; actual = is.actual };
       cover = λ differ distinct covered. no_more_moved (new_state mrn Enquired) ms m differ.mrns facts.1 (λ begins. ap is_counting from.1) gs covered;
     }

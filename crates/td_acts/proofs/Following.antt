@@ -211,8 +211,8 @@ sound_after country H (Some h) (change.Moved r status) row form has is number so
     (sound_moved country h status is.movement r.last_at form is.moment is.found is.keeps (is.cover (differ_with country (Some h) form sound) (distinct_lines country h status.mrn is.movement is.found sound) sound.cover) sound)
 sound_after country H None (change.TermsSet r terms) row form has is number sound = let some = is.known in cc
 sound_after country H (Some h) (change.TermsSet r terms) row form has is number sound = sound_said_of country H h r terms.grn (with_terms terms) form number is sound
-sound_after country H None (change.CodeAdded r grn code) row form has is number sound = let some = is.known in cc
-sound_after country H (Some h) (change.CodeAdded r grn code) row form has is number sound = sound_said_of country H h r grn (coded code) form number is sound
+sound_after country H None (change.CodeAdded r grn code) row form has is number sound = let some = is.0.known in cc
+sound_after country H (Some h) (change.CodeAdded r grn code) row form has is number sound = sound_said_of country H h r grn (coded code) form number is.0 sound
 sound_after country H None (change.CodeRemoved r grn code) row form has is number sound = let some = is.known in cc
 sound_after country H (Some h) (change.CodeRemoved r grn code) row form has is number sound = sound_said_of country H h r grn (uncoded code) form number is sound
 
@@ -239,7 +239,7 @@ number_after country H o (change.TermsSet r terms) row has is number =
     subst (λ (r : HolderRow). r.holder ≡ H) same (ap (λ (r : HolderRow). r.holder) is.next ∙ number_of H country o is.old number is.known)
 number_after country H o (change.CodeAdded r grn code) row has is number =
     let same : r ≡ row = cc in
-    subst (λ (r : HolderRow). r.holder ≡ H) same (ap (λ (r : HolderRow). r.holder) is.next ∙ number_of H country o is.old number is.known)
+    subst (λ (r : HolderRow). r.holder ≡ H) same (ap (λ (r : HolderRow). r.holder) is.0.next ∙ number_of H country o is.0.old number is.0.known)
 number_after country H o (change.CodeRemoved r grn code) row has is number =
     let same : r ≡ row = cc in
     subst (λ (r : HolderRow). r.holder ≡ H) same (ap (λ (r : HolderRow). r.holder) is.next ∙ number_of H country o is.old number is.known)

@@ -3,13 +3,13 @@ use Rattle.std.proofs.Common.{◌≡◌, ◌≢◌, ℕ, List, codes, inl, inr, 
 use Rattle.http_header.specs.Token.{IsToken, is_token_byte}
 use Rattle.http_header.proofs.TokenLemmas.{AllPass-from_test}
 use Rattle.td_commands.specs.declared.command.Command.{Command}
-use Rattle.td_commands.specs.declared.command.Command.TheVariants.{Register, OpenGuarantee, Amend, Revoke, Ie015, Ie014, AddCode, RemoveCode, Ie029, Ie007, Ie018, Ie045, Ie140, SeeHolder, SeeMovement, SeeMovements, SeeGuarantee, SeeGuarantees}
 use Rattle.td_fields.specs.Faults.{OrNoMemory}
 use Rattle.td_fields.specs.declared.fault.WebFault.{WebFault}
 use Rattle.td_fields.specs.declared.fault.WebFault.TheVariants.{NoMemory}
 use Rattle.td_journal_rows.specs.Requests.{ReadsBack, request_method, request_path}
 use Rattle.td_journal_rows.specs.declared.rows.JournalRow.{JournalRow}
 use Rattle.td_journal_lines.specs.Lines.{HasRequestOf}
+use Rattle.td_journal_rows.proofs.Methods.{by_method}
 use Rattle.td_routes.specs.Bodies.{command_of}
 
 -- what was read is no command
@@ -39,21 +39,4 @@ get = (omega arith, AllPass-from_test is_token_byte (codes "GET") refl)
 
 -- the method of a command's request is one
 pub method_token : (c : Command) → IsToken (request_method c)
-method_token (Register holder eori) = put
-method_token (OpenGuarantee holder reference cover code) = post
-method_token (Amend grn reference cover) = post
-method_token (Revoke grn) = post
-method_token (Ie015 holder lrn departure destination lines) = post
-method_token (Ie014 holder mrn) = post
-method_token (AddCode holder grn code) = post
-method_token (RemoveCode holder grn code) = post
-method_token (Ie029 mrn limit) = post
-method_token (Ie007 mrn office) = post
-method_token (Ie018 mrn result) = post
-method_token (Ie045 mrn cause) = post
-method_token (Ie140 mrn) = post
-method_token (SeeHolder holder) = get
-method_token (SeeMovement holder mrn) = get
-method_token (SeeMovements holder) = get
-method_token (SeeGuarantee holder grn) = get
-method_token (SeeGuarantees holder) = get
+method_token c = by_method IsToken put post get c

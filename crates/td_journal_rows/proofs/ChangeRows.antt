@@ -3,10 +3,10 @@ use Rattle.std.proofs.Common.{◌≡◌, ℕ, ◌^◌, ◌<◌, ◌==◌, List, 
 use Rattle.std.proofs.lemmas.Bool.{ne_eqb}
 use Rattle.std.proofs.lemmas.List.Elements.{All-weaker}
 use Rattle.td_commands.specs.declared.command.Command.{Command}
-use Rattle.td_commands.specs.declared.command.Command.TheVariants.{Register, OpenGuarantee, Amend, Revoke, Ie015, Ie014, AddCode, RemoveCode, Ie029, Ie007, Ie018, Ie045, Ie140, SeeHolder, SeeMovement, SeeMovements, SeeGuarantee, SeeGuarantees}
 use Rattle.td_journal_rows.specs.Requests.{IsTyped, request_body, request_method, request_path}
 use Rattle.td_journal_rows.specs.Rows.{HasNoLineFeed, IsRow, change_row}
 use Rattle.td_journal_rows.proofs.Bodies.{body_shown}
+use Rattle.td_journal_rows.proofs.Methods.{by_method}
 use Rattle.td_journal_rows.proofs.Paths.{path_leads}
 use Rattle.td_journal_rows.proofs.Plain.{IsShown, plain_text, shown_plain}
 
@@ -23,24 +23,7 @@ get : All IsShown (codes "GET")
 get = shown_plain (codes "GET") (plain_text (codes "GET") refl)
 
 method_shown : (c : Command) → All IsShown (request_method c)
-method_shown (Register holder eori) = put
-method_shown (OpenGuarantee holder reference cover code) = post
-method_shown (Amend grn reference cover) = post
-method_shown (Revoke grn) = post
-method_shown (Ie015 holder lrn departure destination lines) = post
-method_shown (Ie014 holder mrn) = post
-method_shown (AddCode holder grn code) = post
-method_shown (RemoveCode holder grn code) = post
-method_shown (Ie029 mrn limit) = post
-method_shown (Ie007 mrn office) = post
-method_shown (Ie018 mrn result) = post
-method_shown (Ie045 mrn cause) = post
-method_shown (Ie140 mrn) = post
-method_shown (SeeHolder holder) = get
-method_shown (SeeMovement holder mrn) = get
-method_shown (SeeMovements holder) = get
-method_shown (SeeGuarantee holder grn) = get
-method_shown (SeeGuarantees holder) = get
+method_shown c = by_method (All IsShown) put post get c
 
 pub change_is_row : (number at : ℕ) (c : Command) (reply : List ℕ) → number < 10 ^ 18 → at < 10 ^ 18 → IsTyped c → HasNoLineFeed reply → IsRow (change_row number at c reply)
 change_is_row number at c reply small small_at typed said = record {

@@ -1,6 +1,7 @@
 mod Plain
 mod Readings
 mod Written
+pub mod Methods
 mod Paths
 mod Bodies
 mod ReadBack

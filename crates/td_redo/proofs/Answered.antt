@@ -1,10 +1,10 @@
 -- Where a command's answer shows again as it was, nothing is changed.
-use Rattle.std.proofs.Common.{◌≡◌, ◌≢◌, ℕ, Bool, true, false, List, Option, Some, None, refl, ◌∙◌, ap, inl, inr}
+use Rattle.std.proofs.Common.{◌≡◌, ◌≢◌, ℕ, Bool, true, false, List, Option, Some, None, refl, sym, subst, ◌∙◌, ap, inl, inr}
 use Rattle.std.specs.Prelude.{if◌then◌else◌, ℤ}
 use Rattle.td_base.specs.Codes.{IsCountry}
 use Rattle.td_base.specs.Days.{moment_of}
 use Rattle.td_commands.specs.declared.command.Command.{Command}
-use Rattle.td_commands.specs.declared.command.Command.TheVariants.{Register, OpenGuarantee, Amend, Revoke, Ie015, Ie014, AddCode, RemoveCode, Ie029, Ie007, Ie018, Ie045, Ie140, SeeHolder, SeeMovement, SeeMovements, SeeGuarantee, SeeGuarantees}
+use Rattle.td_commands.specs.declared.command.Command.TheVariants.{OpenGuarantee}
 use Rattle.td_commands.specs.declared.said.Answer.TheVariants as answer
 use Rattle.td_commands.specs.declared.said.Said.{Said}
 use Rattle.td_commands.specs.declared.said.Said.TheVariants.{Answered, Refused}
@@ -19,7 +19,7 @@ use Rattle.td_model.specs.Table.{said}
 use Rattle.td_redo.specs.Redo.{account_done, TellsOpenings}
 use Rattle.td_redo.specs.Laws.{GrnIsEnough, RedoLaw}
 use Rattle.td_redo.specs.Second.{IsAnotherOpening}
-use Rattle.td_redo.proofs.Twice.{done_twice}
+use Rattle.td_redo.proofs.Twice.{OpensOrNot, done_twice, opens_or_not}
 use Rattle.td_redo.proofs.OtherGrn.{another_grn}
 
 -- what isn't accepted leaves the account
@@ -54,24 +54,13 @@ opening X shown tells a at holder reference cover code form proper same = by_tes
         ap (λ (x : Account). account_done x at (OpenGuarantee holder reference cover code)) (unchanged (moment_of at) a (OpenGuarantee holder reference cover code) other)
 
 pub redo : (X : Type 0) → RedoLaw X
-redo X shown tells a at (OpenGuarantee holder reference cover code) form proper same = opening X shown tells a at holder reference cover code form proper same
-redo X shown tells a at (Register h eori) form proper same = done_twice a at (Register h eori) refl
-redo X shown tells a at (Amend grn reference cover) form proper same = done_twice a at (Amend grn reference cover) refl
-redo X shown tells a at (Revoke grn) form proper same = done_twice a at (Revoke grn) refl
-redo X shown tells a at (Ie015 h lrn departure destination lines) form proper same = done_twice a at (Ie015 h lrn departure destination lines) refl
-redo X shown tells a at (Ie014 h mrn) form proper same = done_twice a at (Ie014 h mrn) refl
-redo X shown tells a at (AddCode h grn code) form proper same = done_twice a at (AddCode h grn code) refl
-redo X shown tells a at (RemoveCode h grn code) form proper same = done_twice a at (RemoveCode h grn code) refl
-redo X shown tells a at (Ie029 mrn limit) form proper same = done_twice a at (Ie029 mrn limit) refl
-redo X shown tells a at (Ie007 mrn office) form proper same = done_twice a at (Ie007 mrn office) refl
-redo X shown tells a at (Ie018 mrn result) form proper same = done_twice a at (Ie018 mrn result) refl
-redo X shown tells a at (Ie045 mrn cause) form proper same = done_twice a at (Ie045 mrn cause) refl
-redo X shown tells a at (Ie140 mrn) form proper same = done_twice a at (Ie140 mrn) refl
-redo X shown tells a at (SeeHolder h) form proper same = done_twice a at (SeeHolder h) refl
-redo X shown tells a at (SeeMovement h mrn) form proper same = done_twice a at (SeeMovement h mrn) refl
-redo X shown tells a at (SeeMovements h) form proper same = done_twice a at (SeeMovements h) refl
-redo X shown tells a at (SeeGuarantee h grn) form proper same = done_twice a at (SeeGuarantee h grn) refl
-redo X shown tells a at (SeeGuarantees h) form proper same = done_twice a at (SeeGuarantees h) refl
+redo X shown tells a at command form proper same = by_kind (opens_or_not command)
+  where
+    by_kind : OpensOrNot command → account_done (account_done a at command) at command ≡ account_done a at command
+    by_kind (inl none) = done_twice a at command none
+    by_kind (inr o) =
+        subst (λ (c : Command). IsProper c → shown (said (account_done a at c) at c) ≡ shown (said a at c) → account_done (account_done a at c) at c ≡ account_done a at c)
+        (sym o.4) (opening X shown tells a at o.0 o.1 o.2 o.3 form) proper same
 
 pub grn_is_enough : GrnIsEnough
 grn_is_enough grn (Answered (answer.Opened other)) same = let one : other ≡ grn = cc in ap (λ (g : List ℕ). Answered (answer.Opened g)) one

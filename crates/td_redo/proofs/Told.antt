@@ -26,6 +26,7 @@ use Rattle.td_redo.proofs.BodyTells.{body_is_enough}
 use Rattle.td_redo.proofs.Contents.{own_done, said_of_owner}
 use Rattle.td_redo.proofs.OtherGrn.{another_grn}
 use Rattle.td_redo.proofs.SecondTime.{said_the_second_time}
+use Rattle.td_redo.proofs.Twice.{OpensOrNot, opens_or_not}
 
 pub stands_is_told : StandsIsTold
 stands_is_told begin done s H sound own carried none accepted =
@@ -72,31 +73,6 @@ again_shown (SeeMovement h mrn) first none = refl
 again_shown (SeeMovements h) first none = refl
 again_shown (SeeGuarantee h grn) first none = refl
 again_shown (SeeGuarantees h) first none = refl
-
--- a command opens no guarantee, or is an opening
-abbrev OpensOrNot : Command → Type 0
-OpensOrNot command =
-    (openings command ≡ 0) ⊎ ((h : ℕ) × (reference : ℕ) × (cover : ℕ) × (code : List ℕ) × (command ≡ OpenGuarantee h reference cover code))
-
-opens_or_not : (command : Command) → OpensOrNot command
-opens_or_not (OpenGuarantee h reference cover code) = inr (h, reference, cover, code, refl)
-opens_or_not (Register h eori) = inl refl
-opens_or_not (Amend grn reference cover) = inl refl
-opens_or_not (Revoke grn) = inl refl
-opens_or_not (Ie015 h lrn departure destination lines) = inl refl
-opens_or_not (Ie014 h mrn) = inl refl
-opens_or_not (AddCode h grn code) = inl refl
-opens_or_not (RemoveCode h grn code) = inl refl
-opens_or_not (Ie029 mrn limit) = inl refl
-opens_or_not (Ie007 mrn office) = inl refl
-opens_or_not (Ie018 mrn result) = inl refl
-opens_or_not (Ie045 mrn cause) = inl refl
-opens_or_not (Ie140 mrn) = inl refl
-opens_or_not (SeeHolder h) = inl refl
-opens_or_not (SeeMovement h mrn) = inl refl
-opens_or_not (SeeMovements h) = inl refl
-opens_or_not (SeeGuarantee h grn) = inl refl
-opens_or_not (SeeGuarantees h) = inl refl
 
 -- another GRN has another body
 other_body : (grn reply : List ℕ) (words : Said) → body_text (Answered (Opened grn)) ≡ reply → IsAnotherOpening grn words → IsOpenedAgain (body_text words ≡ reply) words
