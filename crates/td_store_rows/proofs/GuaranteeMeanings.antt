@@ -1,6 +1,10 @@
 -- What the statements on the table of guarantees mean, in a store's file of each layout that has their table.
-use Rattle.std.proofs.Common.{arith, refl, subst}
-use Rattle.std.specs.Prelude.{ℕ, List, [], ◌∷◌, codes}
+use Rattle.std.proofs.Common.{arith, refl, subst, true, false, Bool, ◌≡◌}
+use Rattle.std.specs.Prelude.{ℕ, List, [], ◌∷◌, ◌++◌, codes}
+use Rattle.sqlite_schema.specs.declared.schema.Index.{Index}
+use Rattle.sqlite_schema.specs.declared.schema.Schema.{Schema}
+use Rattle.sqlite_schema.specs.declared.schema.Table.{Table}
+use Rattle.sqlite_schema.specs.declared.schema.View.{View}
 use Rattle.sqlite_tied.specs.Compute.{everything}
 use Rattle.sqlite.specs.Listing.{understood}
 use Rattle.sqlite_value.specs.declared.keys.Collation.TheVariants.{Binary}
@@ -12,8 +16,10 @@ use Rattle.sqlite_sql.specs.declared.ops.ArithOp.{ArithOp}
 use Rattle.sqlite_sql.specs.declared.ops.ArithOp.TheVariants.{Add, Sub}
 use Rattle.sqlite_sql.specs.declared.ops.BinaryOp.TheVariants.{Arith, Compare, Coalesce}
 use Rattle.sqlite_sql.specs.declared.ops.CompareOp.TheVariants.{Eq, Gt}
-use Rattle.td_schema.proofs.Acting.{none_acts}
-use Rattle.td_schema.specs.Layouts.{guarantees_place, guarantees_tree, schema_of, version_of}
+use Rattle.td_schema.proofs.Still.{none_act}
+use Rattle.td_schema.proofs.Wider.{are_still, behind}
+use Rattle.td_schema.specs.Layouts.{base_schema, guarantees_tree, schema_of, version_of}
+use Rattle.td_schema.specs.Tables.{guarantees, guarantees2, lines}
 use Rattle.td_schema.specs.declared.layout.Layout.{Layout}
 use Rattle.td_schema.specs.declared.layout.Layout.TheVariants.{Made1, Made2, Grown2, Made3, Grown3From2, Grown3From1}
 use Rattle.typed_sql.specs.Meanings.{HasTable, MeansDelete, MeansInsert, MeansUpdate, MeansSelect}
@@ -24,13 +30,42 @@ use Rattle.td_store_rows.proofs.RangeTests.{within_tests}
 use Rattle.td_store_rows.specs.StoreReads.{IsOfVersion, KeepsUse}
 use Rattle.td_store_rows.specs.declared.guarantees.texts.TheConstants.{INSERT, SET_TERMS, ADD_USED, TAKE_USED, BY_GRN, BY_SERIAL, KEPT_WITHIN, NEXT_KEPT_OF_HOLDER, KEPT_OF_HOLDERS_ABOVE, KEPT_ALL, EMPTY_FIRST}
 
-guarantees_there : (l : Layout) → HasTable (schema_of l) (guarantees_place l) (guarantees_table l)
-guarantees_there Made1 = record { there = refl; free = none_acts Made1 (guarantees_tree Made1) }
-guarantees_there Made2 = record { there = refl; free = none_acts Made2 (guarantees_tree Made2) }
-guarantees_there Grown2 = record { there = refl; free = none_acts Grown2 (guarantees_tree Grown2) }
-guarantees_there Made3 = record { there = refl; free = none_acts Made3 (guarantees_tree Made3) }
-guarantees_there Grown3From2 = record { there = refl; free = none_acts Grown3From2 (guarantees_tree Grown3From2) }
-guarantees_there Grown3From1 = record { there = refl; free = none_acts Grown3From1 (guarantees_tree Grown3From1) }
+-- the tables up to that of guarantees, its place among them, and its tree: in a file that was made with it, and in one that
+-- was made at the first version
+abbrev up_to : Bool → List Table
+up_to true = base_schema.tables ++ record guarantees2 { tree = 8 } ∷ []
+up_to false = base_schema.tables ++ record guarantees { tree = 8 } ∷ record lines { tree = 11 } ∷ record guarantees2 { tree = 14 } ∷ []
+
+abbrev place : Bool → ℕ
+place true = 4
+place false = 6
+
+abbrev tree : Bool → ℕ
+tree true = 8
+tree false = 14
+
+abbrev table : Bool → Table
+table made = record guarantees2 { tree = tree made }
+
+-- such a file, whatever tables stand behind
+abbrev with_it : Bool → List Table → List Index → List View → Schema
+with_it made = behind (up_to made)
+
+-- what holds of both holds of each layout's that keeps amounts
+in_kept : (P : Schema → Table → Type 0)
+    → ((made : Bool) (more : List Table) (indexes : List Index) (views : List View) → are_still more ≡ true → P (with_it made more indexes views) (table made))
+    → (l : Layout) → KeepsUse l → P (schema_of l) (guarantees_table l)
+in_kept P holds Made1 keeps = absurd (omega (arith, keeps))
+in_kept P holds Made2 keeps = holds true _ _ _ refl
+in_kept P holds Grown2 keeps = holds false [] _ _ refl
+in_kept P holds Made3 keeps = holds true _ _ _ refl
+in_kept P holds Grown3From2 keeps = holds true _ _ _ refl
+in_kept P holds Grown3From1 keeps = holds false _ _ _ refl
+
+kept_there : (made : Bool) (more : List Table) (indexes : List Index) (views : List View) → are_still more ≡ true
+    → HasTable (with_it made more indexes views) (place made) (table made)
+kept_there true more indexes views still = record { there = refl; free = none_act (with_it true more indexes views) still 8 }
+kept_there false more indexes views still = record { there = refl; free = none_act (with_it false more indexes views) still 14 }
 
 -- a column is the value that was given at a place
 abbrev pub equals : ℕ → ℕ → Term
@@ -81,95 +116,95 @@ abbrev seven : List (List ℕ)
 seven =
     codes "holder" ∷ codes "serial" ∷ codes "grn" ∷ codes "reference" ∷ codes "cover" ∷ codes "ends" ∷ codes "used" ∷ []
 
-pub insert_means : (l : Layout) → KeepsUse l → MeansInsert (schema_of l) INSERT.now (guarantees_table l) new_row
+insert_means_in : (made : Bool) (more : List Table) (indexes : List Index) (views : List View) → are_still more ≡ true
+    → MeansInsert (with_it made more indexes views) INSERT.now (table made) new_row
 unfolding understood everything
-insert_means Made1 keeps = absurd (omega (arith, keeps))
-insert_means Made2 keeps = record { place = guarantees_place Made2; width = 8; table = guarantees_there Made2; command = refl; plain = (refl, refl); one = λ values. refl }
-insert_means Grown2 keeps = record { place = guarantees_place Grown2; width = 8; table = guarantees_there Grown2; command = refl; plain = (refl, refl); one = λ values. refl }
-insert_means Made3 keeps = record { place = guarantees_place Made3; width = 8; table = guarantees_there Made3; command = refl; plain = (refl, refl); one = λ values. refl }
-insert_means Grown3From2 keeps = record { place = guarantees_place Grown3From2; width = 8; table = guarantees_there Grown3From2; command = refl; plain = (refl, refl); one = λ values. refl }
-insert_means Grown3From1 keeps = record { place = guarantees_place Grown3From1; width = 8; table = guarantees_there Grown3From1; command = refl; plain = (refl, refl); one = λ values. refl }
+insert_means_in true more indexes views still = record { place = 4; width = 8; table = kept_there true more indexes views still; command = refl; plain = (refl, refl); one = λ values. refl }
+insert_means_in false more indexes views still = record { place = 6; width = 8; table = kept_there false more indexes views still; command = refl; plain = (refl, refl); one = λ values. refl }
+
+pub insert_means : (l : Layout) → KeepsUse l → MeansInsert (schema_of l) INSERT.now (guarantees_table l) new_row
+insert_means = in_kept (λ s t. MeansInsert s INSERT.now t new_row) insert_means_in
+
+set_means_in : (made : Bool) (more : List Table) (indexes : List Index) (views : List View) → are_still more ≡ true
+    → MeansUpdate (with_it made more indexes views) SET_TERMS.now (table made) grn_tests set_columns
+unfolding understood everything
+set_means_in true more indexes views still = record { place = 4; table = kept_there true more indexes views still; command = refl; plain = (refl, refl) }
+set_means_in false more indexes views still = record { place = 6; table = kept_there false more indexes views still; command = refl; plain = (refl, refl) }
 
 pub set_means : (l : Layout) → KeepsUse l → MeansUpdate (schema_of l) SET_TERMS.now (guarantees_table l) grn_tests set_columns
+set_means = in_kept (λ s t. MeansUpdate s SET_TERMS.now t grn_tests set_columns) set_means_in
+
+add_means_in : (made : Bool) (more : List Table) (indexes : List Index) (views : List View) → are_still more ≡ true
+    → MeansUpdate (with_it made more indexes views) ADD_USED.now (table made) serial_tests (amount_columns Add)
 unfolding understood everything
-set_means Made1 keeps = absurd (omega (arith, keeps))
-set_means Made2 keeps = record { place = guarantees_place Made2; table = guarantees_there Made2; command = refl; plain = (refl, refl) }
-set_means Grown2 keeps = record { place = guarantees_place Grown2; table = guarantees_there Grown2; command = refl; plain = (refl, refl) }
-set_means Made3 keeps = record { place = guarantees_place Made3; table = guarantees_there Made3; command = refl; plain = (refl, refl) }
-set_means Grown3From2 keeps = record { place = guarantees_place Grown3From2; table = guarantees_there Grown3From2; command = refl; plain = (refl, refl) }
-set_means Grown3From1 keeps = record { place = guarantees_place Grown3From1; table = guarantees_there Grown3From1; command = refl; plain = (refl, refl) }
+add_means_in true more indexes views still = record { place = 4; table = kept_there true more indexes views still; command = refl; plain = (refl, refl) }
+add_means_in false more indexes views still = record { place = 6; table = kept_there false more indexes views still; command = refl; plain = (refl, refl) }
 
 pub add_means : (l : Layout) → KeepsUse l → MeansUpdate (schema_of l) ADD_USED.now (guarantees_table l) serial_tests (amount_columns Add)
+add_means = in_kept (λ s t. MeansUpdate s ADD_USED.now t serial_tests (amount_columns Add)) add_means_in
+
+take_means_in : (made : Bool) (more : List Table) (indexes : List Index) (views : List View) → are_still more ≡ true
+    → MeansUpdate (with_it made more indexes views) TAKE_USED.now (table made) serial_tests (amount_columns Sub)
 unfolding understood everything
-add_means Made1 keeps = absurd (omega (arith, keeps))
-add_means Made2 keeps = record { place = guarantees_place Made2; table = guarantees_there Made2; command = refl; plain = (refl, refl) }
-add_means Grown2 keeps = record { place = guarantees_place Grown2; table = guarantees_there Grown2; command = refl; plain = (refl, refl) }
-add_means Made3 keeps = record { place = guarantees_place Made3; table = guarantees_there Made3; command = refl; plain = (refl, refl) }
-add_means Grown3From2 keeps = record { place = guarantees_place Grown3From2; table = guarantees_there Grown3From2; command = refl; plain = (refl, refl) }
-add_means Grown3From1 keeps = record { place = guarantees_place Grown3From1; table = guarantees_there Grown3From1; command = refl; plain = (refl, refl) }
+take_means_in true more indexes views still = record { place = 4; table = kept_there true more indexes views still; command = refl; plain = (refl, refl) }
+take_means_in false more indexes views still = record { place = 6; table = kept_there false more indexes views still; command = refl; plain = (refl, refl) }
 
 pub take_means : (l : Layout) → KeepsUse l → MeansUpdate (schema_of l) TAKE_USED.now (guarantees_table l) serial_tests (amount_columns Sub)
+take_means = in_kept (λ s t. MeansUpdate s TAKE_USED.now t serial_tests (amount_columns Sub)) take_means_in
+
+by_grn_means_in : (made : Bool) (more : List Table) (indexes : List Index) (views : List View) → are_still more ≡ true
+    → MeansSelect (with_it made more indexes views) BY_GRN.now (tree made) grn_tests all_columns []
 unfolding understood everything
-take_means Made1 keeps = absurd (omega (arith, keeps))
-take_means Made2 keeps = record { place = guarantees_place Made2; table = guarantees_there Made2; command = refl; plain = (refl, refl) }
-take_means Grown2 keeps = record { place = guarantees_place Grown2; table = guarantees_there Grown2; command = refl; plain = (refl, refl) }
-take_means Made3 keeps = record { place = guarantees_place Made3; table = guarantees_there Made3; command = refl; plain = (refl, refl) }
-take_means Grown3From2 keeps = record { place = guarantees_place Grown3From2; table = guarantees_there Grown3From2; command = refl; plain = (refl, refl) }
-take_means Grown3From1 keeps = record { place = guarantees_place Grown3From1; table = guarantees_there Grown3From1; command = refl; plain = (refl, refl) }
+by_grn_means_in true more indexes views still = record { names = seven; command = refl; plain = (refl, refl); unlisted = refl }
+by_grn_means_in false more indexes views still = record { names = seven; command = refl; plain = (refl, refl); unlisted = refl }
 
 pub by_grn_means : (l : Layout) → KeepsUse l → MeansSelect (schema_of l) BY_GRN.now (guarantees_tree l) grn_tests all_columns []
+by_grn_means = in_kept (λ s t. MeansSelect s BY_GRN.now t.tree grn_tests all_columns []) by_grn_means_in
+
+by_serial_means_in : (made : Bool) (more : List Table) (indexes : List Index) (views : List View) → are_still more ≡ true
+    → MeansSelect (with_it made more indexes views) BY_SERIAL.now (tree made) serial_tests six_columns []
 unfolding understood everything
-by_grn_means Made1 keeps = absurd (omega (arith, keeps))
-by_grn_means Made2 keeps = record { names = seven; command = refl; plain = (refl, refl); unlisted = refl }
-by_grn_means Grown2 keeps = record { names = seven; command = refl; plain = (refl, refl); unlisted = refl }
-by_grn_means Made3 keeps = record { names = seven; command = refl; plain = (refl, refl); unlisted = refl }
-by_grn_means Grown3From2 keeps = record { names = seven; command = refl; plain = (refl, refl); unlisted = refl }
-by_grn_means Grown3From1 keeps = record { names = seven; command = refl; plain = (refl, refl); unlisted = refl }
+by_serial_means_in true more indexes views still = record { names = six; command = refl; plain = (refl, refl); unlisted = refl }
+by_serial_means_in false more indexes views still = record { names = six; command = refl; plain = (refl, refl); unlisted = refl }
 
 pub by_serial_means : (l : Layout) → KeepsUse l → MeansSelect (schema_of l) BY_SERIAL.now (guarantees_tree l) serial_tests six_columns []
+by_serial_means = in_kept (λ s t. MeansSelect s BY_SERIAL.now t.tree serial_tests six_columns []) by_serial_means_in
+
+kept_within_means_in : (made : Bool) (more : List Table) (indexes : List Index) (views : List View) → are_still more ≡ true
+    → MeansSelect (with_it made more indexes views) KEPT_WITHIN.now (tree made) within_tests all_columns by_serial
 unfolding understood everything
-by_serial_means Made1 keeps = absurd (omega (arith, keeps))
-by_serial_means Made2 keeps = record { names = six; command = refl; plain = (refl, refl); unlisted = refl }
-by_serial_means Grown2 keeps = record { names = six; command = refl; plain = (refl, refl); unlisted = refl }
-by_serial_means Made3 keeps = record { names = six; command = refl; plain = (refl, refl); unlisted = refl }
-by_serial_means Grown3From2 keeps = record { names = six; command = refl; plain = (refl, refl); unlisted = refl }
-by_serial_means Grown3From1 keeps = record { names = six; command = refl; plain = (refl, refl); unlisted = refl }
+kept_within_means_in true more indexes views still = record { names = seven; command = refl; plain = (refl, refl); unlisted = refl }
+kept_within_means_in false more indexes views still = record { names = seven; command = refl; plain = (refl, refl); unlisted = refl }
 
 pub kept_within_means : (l : Layout) → KeepsUse l → MeansSelect (schema_of l) KEPT_WITHIN.now (guarantees_tree l) within_tests all_columns by_serial
+kept_within_means = in_kept (λ s t. MeansSelect s KEPT_WITHIN.now t.tree within_tests all_columns by_serial) kept_within_means_in
+
+next_kept_of_holder_means_in : (made : Bool) (more : List Table) (indexes : List Index) (views : List View) → are_still more ≡ true
+    → MeansSelect (with_it made more indexes views) NEXT_KEPT_OF_HOLDER.now (tree made) after_tests all_columns by_serial
 unfolding understood everything
-kept_within_means Made1 keeps = absurd (omega (arith, keeps))
-kept_within_means Made2 keeps = record { names = seven; command = refl; plain = (refl, refl); unlisted = refl }
-kept_within_means Grown2 keeps = record { names = seven; command = refl; plain = (refl, refl); unlisted = refl }
-kept_within_means Made3 keeps = record { names = seven; command = refl; plain = (refl, refl); unlisted = refl }
-kept_within_means Grown3From2 keeps = record { names = seven; command = refl; plain = (refl, refl); unlisted = refl }
-kept_within_means Grown3From1 keeps = record { names = seven; command = refl; plain = (refl, refl); unlisted = refl }
+next_kept_of_holder_means_in true more indexes views still = record { names = seven; command = refl; plain = (refl, refl); unlisted = refl }
+next_kept_of_holder_means_in false more indexes views still = record { names = seven; command = refl; plain = (refl, refl); unlisted = refl }
 
 pub next_kept_of_holder_means : (l : Layout) → KeepsUse l → MeansSelect (schema_of l) NEXT_KEPT_OF_HOLDER.now (guarantees_tree l) after_tests all_columns by_serial
+next_kept_of_holder_means = in_kept (λ s t. MeansSelect s NEXT_KEPT_OF_HOLDER.now t.tree after_tests all_columns by_serial) next_kept_of_holder_means_in
+
+kept_of_holders_above_means_in : (made : Bool) (more : List Table) (indexes : List Index) (views : List View) → are_still more ≡ true
+    → MeansSelect (with_it made more indexes views) KEPT_OF_HOLDERS_ABOVE.now (tree made) above_tests all_columns by_serial
 unfolding understood everything
-next_kept_of_holder_means Made1 keeps = absurd (omega (arith, keeps))
-next_kept_of_holder_means Made2 keeps = record { names = seven; command = refl; plain = (refl, refl); unlisted = refl }
-next_kept_of_holder_means Grown2 keeps = record { names = seven; command = refl; plain = (refl, refl); unlisted = refl }
-next_kept_of_holder_means Made3 keeps = record { names = seven; command = refl; plain = (refl, refl); unlisted = refl }
-next_kept_of_holder_means Grown3From2 keeps = record { names = seven; command = refl; plain = (refl, refl); unlisted = refl }
-next_kept_of_holder_means Grown3From1 keeps = record { names = seven; command = refl; plain = (refl, refl); unlisted = refl }
+kept_of_holders_above_means_in true more indexes views still = record { names = seven; command = refl; plain = (refl, refl); unlisted = refl }
+kept_of_holders_above_means_in false more indexes views still = record { names = seven; command = refl; plain = (refl, refl); unlisted = refl }
 
 pub kept_of_holders_above_means : (l : Layout) → KeepsUse l → MeansSelect (schema_of l) KEPT_OF_HOLDERS_ABOVE.now (guarantees_tree l) above_tests all_columns by_serial
+kept_of_holders_above_means = in_kept (λ s t. MeansSelect s KEPT_OF_HOLDERS_ABOVE.now t.tree above_tests all_columns by_serial) kept_of_holders_above_means_in
+
+kept_all_means_in : (made : Bool) (more : List Table) (indexes : List Index) (views : List View) → are_still more ≡ true
+    → MeansSelect (with_it made more indexes views) KEPT_ALL.now (tree made) [] all_columns by_serial
 unfolding understood everything
-kept_of_holders_above_means Made1 keeps = absurd (omega (arith, keeps))
-kept_of_holders_above_means Made2 keeps = record { names = seven; command = refl; plain = (refl, refl); unlisted = refl }
-kept_of_holders_above_means Grown2 keeps = record { names = seven; command = refl; plain = (refl, refl); unlisted = refl }
-kept_of_holders_above_means Made3 keeps = record { names = seven; command = refl; plain = (refl, refl); unlisted = refl }
-kept_of_holders_above_means Grown3From2 keeps = record { names = seven; command = refl; plain = (refl, refl); unlisted = refl }
-kept_of_holders_above_means Grown3From1 keeps = record { names = seven; command = refl; plain = (refl, refl); unlisted = refl }
+kept_all_means_in true more indexes views still = record { names = seven; command = refl; plain = (refl, refl); unlisted = refl }
+kept_all_means_in false more indexes views still = record { names = seven; command = refl; plain = (refl, refl); unlisted = refl }
 
 pub kept_all_means : (l : Layout) → KeepsUse l → MeansSelect (schema_of l) KEPT_ALL.now (guarantees_tree l) [] all_columns by_serial
-unfolding understood everything
-kept_all_means Made1 keeps = absurd (omega (arith, keeps))
-kept_all_means Made2 keeps = record { names = seven; command = refl; plain = (refl, refl); unlisted = refl }
-kept_all_means Grown2 keeps = record { names = seven; command = refl; plain = (refl, refl); unlisted = refl }
-kept_all_means Made3 keeps = record { names = seven; command = refl; plain = (refl, refl); unlisted = refl }
-kept_all_means Grown3From2 keeps = record { names = seven; command = refl; plain = (refl, refl); unlisted = refl }
-kept_all_means Grown3From1 keeps = record { names = seven; command = refl; plain = (refl, refl); unlisted = refl }
+kept_all_means = in_kept (λ s t. MeansSelect s KEPT_ALL.now t.tree [] all_columns by_serial) kept_all_means_in
 
 within_at : (l : Layout) → MeansSelect (schema_of l) (within_text (version_of l)) (guarantees_tree l) within_tests six_columns by_serial
 unfolding understood everything
@@ -201,4 +236,4 @@ next_of_holder_means version l is =
 
 pub empty_means : MeansDelete (schema_of Grown2) EMPTY_FIRST.now first_guarantees []
 unfolding understood everything
-empty_means = record { place = 4; table = record { there = refl; free = none_acts Grown2 8 }; command = refl; plain = (refl, refl) }
+empty_means = record { place = 4; table = record { there = refl; free = none_act (schema_of Grown2) refl 8 }; command = refl; plain = (refl, refl) }

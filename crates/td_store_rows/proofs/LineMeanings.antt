@@ -10,7 +10,7 @@ use Rattle.sqlite_value.specs.Keys.{ascending}
 use Rattle.sqlite_sql.specs.Term.{Term, lit, col, op2}
 use Rattle.sqlite_sql.specs.declared.ops.BinaryOp.TheVariants.{Compare}
 use Rattle.sqlite_sql.specs.declared.ops.CompareOp.TheVariants.{Eq}
-use Rattle.td_schema.proofs.Acting.{none_acts}
+use Rattle.td_schema.proofs.Still.{none_act}
 use Rattle.td_schema.specs.Layouts.{HasFewLines, HasMoreLines, grown, lines_place, lines_tree, schema_of, version_of}
 use Rattle.td_schema.specs.declared.layout.Layout.{Layout}
 use Rattle.td_schema.specs.declared.layout.Layout.TheVariants.{Made1, Made2, Grown2, Made3, Grown3From2, Grown3From1}
@@ -20,12 +20,12 @@ use Rattle.td_store_rows.specs.LineTable.{first_lines}
 use Rattle.td_store_rows.specs.declared.lines.texts.TheConstants.{ALL_FIRST, EMPTY_FIRST, INSERT, OF_MOVEMENT, ON_GUARANTEE}
 
 lines_there : (l : Layout) → HasTable (schema_of l) (lines_place l) (lines_table l)
-lines_there Made1 = record { there = refl; free = none_acts Made1 (lines_tree Made1) }
-lines_there Made2 = record { there = refl; free = none_acts Made2 (lines_tree Made2) }
-lines_there Grown2 = record { there = refl; free = none_acts Grown2 (lines_tree Grown2) }
-lines_there Made3 = record { there = refl; free = none_acts Made3 (lines_tree Made3) }
-lines_there Grown3From2 = record { there = refl; free = none_acts Grown3From2 (lines_tree Grown3From2) }
-lines_there Grown3From1 = record { there = refl; free = none_acts Grown3From1 (lines_tree Grown3From1) }
+lines_there Made1 = record { there = refl; free = none_act (schema_of Made1) refl (lines_tree Made1) }
+lines_there Made2 = record { there = refl; free = none_act (schema_of Made2) refl (lines_tree Made2) }
+lines_there Grown2 = record { there = refl; free = none_act (schema_of Grown2) refl (lines_tree Grown2) }
+lines_there Made3 = record { there = refl; free = none_act (schema_of Made3) refl (lines_tree Made3) }
+lines_there Grown3From2 = record { there = refl; free = none_act (schema_of Grown3From2) refl (lines_tree Grown3From2) }
+lines_there Grown3From1 = record { there = refl; free = none_act (schema_of Grown3From1) refl (lines_tree Grown3From1) }
 
 -- the holder and the serial are those that were given
 abbrev pub key_tests : List Term
@@ -87,8 +87,8 @@ all_first_means Grown3From1 few = absurd (omega (arith, few))
 pub empty_means : (l : Layout) → version_of l ≡ 2 → MeansDelete (schema_of (grown l)) EMPTY_FIRST.now first_lines []
 unfolding understood everything
 empty_means Made1 is = absurd cc
-empty_means Made2 is = record { place = 5; table = record { there = refl; free = none_acts Grown3From2 11 }; command = refl; plain = (refl, refl) }
-empty_means Grown2 is = record { place = 5; table = record { there = refl; free = none_acts Grown3From1 11 }; command = refl; plain = (refl, refl) }
+empty_means Made2 is = record { place = 5; table = record { there = refl; free = none_act (schema_of Grown3From2) refl 11 }; command = refl; plain = (refl, refl) }
+empty_means Grown2 is = record { place = 5; table = record { there = refl; free = none_act (schema_of Grown3From1) refl 11 }; command = refl; plain = (refl, refl) }
 empty_means Made3 is = absurd cc
 empty_means Grown3From2 is = absurd cc
 empty_means Grown3From1 is = absurd cc

@@ -1,6 +1,12 @@
 -- What the statements on the table of movements mean, in a store's file of each layout.
-use Rattle.std.proofs.Common.{refl}
+use Rattle.std.proofs.Common.{refl, true, ◌≡◌}
 use Rattle.std.specs.Prelude.{ℕ, List, [], ◌∷◌, codes}
+use Rattle.sqlite_schema.specs.declared.schema.Index.{Index}
+use Rattle.sqlite_schema.specs.declared.schema.Table.{Table}
+use Rattle.sqlite_schema.specs.declared.schema.View.{View}
+use Rattle.td_schema.proofs.Wider.{are_still, wider}
+use Rattle.td_schema.proofs.Still.{none_act}
+use Rattle.td_schema.proofs.InEach.{in_each}
 use Rattle.sqlite_tied.specs.Compute.{everything}
 use Rattle.sqlite.specs.Listing.{understood}
 use Rattle.sqlite_value.specs.declared.keys.Collation.TheVariants.{Binary}
@@ -10,22 +16,15 @@ use Rattle.sqlite_value.specs.Keys.{ascending}
 use Rattle.sqlite_sql.specs.Term.{Term, lit, col, op2}
 use Rattle.sqlite_sql.specs.declared.ops.BinaryOp.TheVariants.{Compare, Coalesce, Or}
 use Rattle.sqlite_sql.specs.declared.ops.CompareOp.TheVariants.{Eq, Gt}
-use Rattle.td_schema.proofs.Acting.{none_acts}
 use Rattle.td_schema.specs.Layouts.{schema_of}
 use Rattle.td_schema.specs.declared.layout.Layout.{Layout}
-use Rattle.td_schema.specs.declared.layout.Layout.TheVariants.{Made1, Made2, Grown2, Made3, Grown3From2, Grown3From1}
 use Rattle.typed_sql.specs.Meanings.{HasTable, MeansInsert, MeansUpdate, MeansSelect}
 use Rattle.td_store_rows.specs.Columns.{movements_table}
 use Rattle.td_store_rows.proofs.RangeTests.{within_tests}
 use Rattle.td_store_rows.specs.declared.movements.texts.TheConstants.{INSERT, SET_STATUS, BY_MRN, BY_LRN, WITHIN, LISTED_WITHIN, NEXT_OF_HOLDER, OF_HOLDERS_ABOVE, DEADLINES, COUNTING_SERIALS}
 
-movements_there : (l : Layout) → HasTable (schema_of l) 3 movements_table
-movements_there Made1 = record { there = refl; free = none_acts Made1 4 }
-movements_there Made2 = record { there = refl; free = none_acts Made2 4 }
-movements_there Grown2 = record { there = refl; free = none_acts Grown2 4 }
-movements_there Made3 = record { there = refl; free = none_acts Made3 4 }
-movements_there Grown3From2 = record { there = refl; free = none_acts Grown3From2 4 }
-movements_there Grown3From1 = record { there = refl; free = none_acts Grown3From1 4 }
+movements_there : (more : List Table) (indexes : List Index) (views : List View) → are_still more ≡ true → HasTable (wider more indexes views) 3 movements_table
+movements_there more indexes views still = record { there = refl; free = none_act (wider more indexes views) still 4 }
 
 -- a column is the value that was given at a place
 abbrev pub equals : ℕ → ℕ → Term
@@ -83,68 +82,54 @@ names =
     codes "holder" ∷ codes "serial" ∷ codes "mrn" ∷ codes "lrn" ∷ codes "departure" ∷ codes "destination"
     ∷ codes "accepted" ∷ codes "state" ∷ codes "limit_day" ∷ codes "arrival" ∷ codes "actual" ∷ []
 
-pub insert_means : (l : Layout) → MeansInsert (schema_of l) INSERT.now movements_table new_row
+insert_means_in : (more : List Table) (indexes : List Index) (views : List View) → are_still more ≡ true → MeansInsert (wider more indexes views) INSERT.now movements_table new_row
 unfolding understood everything
-insert_means Made1 = record { place = 3; width = 12; table = movements_there Made1; command = refl; plain = (refl, refl); one = λ values. refl }
-insert_means Made2 = record { place = 3; width = 12; table = movements_there Made2; command = refl; plain = (refl, refl); one = λ values. refl }
-insert_means Grown2 = record { place = 3; width = 12; table = movements_there Grown2; command = refl; plain = (refl, refl); one = λ values. refl }
-insert_means Made3 = record { place = 3; width = 12; table = movements_there Made3; command = refl; plain = (refl, refl); one = λ values. refl }
-insert_means Grown3From2 = record { place = 3; width = 12; table = movements_there Grown3From2; command = refl; plain = (refl, refl); one = λ values. refl }
-insert_means Grown3From1 = record { place = 3; width = 12; table = movements_there Grown3From1; command = refl; plain = (refl, refl); one = λ values. refl }
+insert_means_in more indexes views still = record { place = 3; width = 12; table = movements_there more indexes views still; command = refl; plain = (refl, refl); one = λ values. refl }
+
+pub insert_means : (l : Layout) → MeansInsert (schema_of l) INSERT.now movements_table new_row
+insert_means = in_each (λ s. MeansInsert s INSERT.now movements_table new_row) insert_means_in
+
+set_means_in : (more : List Table) (indexes : List Index) (views : List View) → are_still more ≡ true → MeansUpdate (wider more indexes views) SET_STATUS.now movements_table key_tests set_columns
+unfolding understood everything
+set_means_in more indexes views still = record { place = 3; table = movements_there more indexes views still; command = refl; plain = (refl, refl) }
 
 pub set_means : (l : Layout) → MeansUpdate (schema_of l) SET_STATUS.now movements_table key_tests set_columns
+set_means = in_each (λ s. MeansUpdate s SET_STATUS.now movements_table key_tests set_columns) set_means_in
+
+by_mrn_means_in : (more : List Table) (indexes : List Index) (views : List View) → are_still more ≡ true → MeansSelect (wider more indexes views) BY_MRN.now 4 key_tests all_columns []
 unfolding understood everything
-set_means Made1 = record { place = 3; table = movements_there Made1; command = refl; plain = (refl, refl) }
-set_means Made2 = record { place = 3; table = movements_there Made2; command = refl; plain = (refl, refl) }
-set_means Grown2 = record { place = 3; table = movements_there Grown2; command = refl; plain = (refl, refl) }
-set_means Made3 = record { place = 3; table = movements_there Made3; command = refl; plain = (refl, refl) }
-set_means Grown3From2 = record { place = 3; table = movements_there Grown3From2; command = refl; plain = (refl, refl) }
-set_means Grown3From1 = record { place = 3; table = movements_there Grown3From1; command = refl; plain = (refl, refl) }
+by_mrn_means_in more indexes views still = record { names = names; command = refl; plain = (refl, refl); unlisted = refl }
 
 pub by_mrn_means : (l : Layout) → MeansSelect (schema_of l) BY_MRN.now 4 key_tests all_columns []
+by_mrn_means = in_each (λ s. MeansSelect s BY_MRN.now 4 key_tests all_columns []) by_mrn_means_in
+
+by_lrn_means_in : (more : List Table) (indexes : List Index) (views : List View) → are_still more ≡ true → MeansSelect (wider more indexes views) BY_LRN.now 4 lrn_tests all_columns []
 unfolding understood everything
-by_mrn_means Made1 = record { names = names; command = refl; plain = (refl, refl); unlisted = refl }
-by_mrn_means Made2 = record { names = names; command = refl; plain = (refl, refl); unlisted = refl }
-by_mrn_means Grown2 = record { names = names; command = refl; plain = (refl, refl); unlisted = refl }
-by_mrn_means Made3 = record { names = names; command = refl; plain = (refl, refl); unlisted = refl }
-by_mrn_means Grown3From2 = record { names = names; command = refl; plain = (refl, refl); unlisted = refl }
-by_mrn_means Grown3From1 = record { names = names; command = refl; plain = (refl, refl); unlisted = refl }
+by_lrn_means_in more indexes views still = record { names = names; command = refl; plain = (refl, refl); unlisted = refl }
 
 pub by_lrn_means : (l : Layout) → MeansSelect (schema_of l) BY_LRN.now 4 lrn_tests all_columns []
+by_lrn_means = in_each (λ s. MeansSelect s BY_LRN.now 4 lrn_tests all_columns []) by_lrn_means_in
+
+within_means_in : (more : List Table) (indexes : List Index) (views : List View) → are_still more ≡ true → MeansSelect (wider more indexes views) WITHIN.now 4 within_tests all_columns by_serial
 unfolding understood everything
-by_lrn_means Made1 = record { names = names; command = refl; plain = (refl, refl); unlisted = refl }
-by_lrn_means Made2 = record { names = names; command = refl; plain = (refl, refl); unlisted = refl }
-by_lrn_means Grown2 = record { names = names; command = refl; plain = (refl, refl); unlisted = refl }
-by_lrn_means Made3 = record { names = names; command = refl; plain = (refl, refl); unlisted = refl }
-by_lrn_means Grown3From2 = record { names = names; command = refl; plain = (refl, refl); unlisted = refl }
-by_lrn_means Grown3From1 = record { names = names; command = refl; plain = (refl, refl); unlisted = refl }
+within_means_in more indexes views still = record { names = names; command = refl; plain = (refl, refl); unlisted = refl }
 
 pub within_means : (l : Layout) → MeansSelect (schema_of l) WITHIN.now 4 within_tests all_columns by_serial
+within_means = in_each (λ s. MeansSelect s WITHIN.now 4 within_tests all_columns by_serial) within_means_in
+
+next_of_holder_means_in : (more : List Table) (indexes : List Index) (views : List View) → are_still more ≡ true → MeansSelect (wider more indexes views) NEXT_OF_HOLDER.now 4 after_tests all_columns by_serial
 unfolding understood everything
-within_means Made1 = record { names = names; command = refl; plain = (refl, refl); unlisted = refl }
-within_means Made2 = record { names = names; command = refl; plain = (refl, refl); unlisted = refl }
-within_means Grown2 = record { names = names; command = refl; plain = (refl, refl); unlisted = refl }
-within_means Made3 = record { names = names; command = refl; plain = (refl, refl); unlisted = refl }
-within_means Grown3From2 = record { names = names; command = refl; plain = (refl, refl); unlisted = refl }
-within_means Grown3From1 = record { names = names; command = refl; plain = (refl, refl); unlisted = refl }
+next_of_holder_means_in more indexes views still = record { names = names; command = refl; plain = (refl, refl); unlisted = refl }
 
 pub next_of_holder_means : (l : Layout) → MeansSelect (schema_of l) NEXT_OF_HOLDER.now 4 after_tests all_columns by_serial
+next_of_holder_means = in_each (λ s. MeansSelect s NEXT_OF_HOLDER.now 4 after_tests all_columns by_serial) next_of_holder_means_in
+
+of_holders_above_means_in : (more : List Table) (indexes : List Index) (views : List View) → are_still more ≡ true → MeansSelect (wider more indexes views) OF_HOLDERS_ABOVE.now 4 above_tests all_columns by_serial
 unfolding understood everything
-next_of_holder_means Made1 = record { names = names; command = refl; plain = (refl, refl); unlisted = refl }
-next_of_holder_means Made2 = record { names = names; command = refl; plain = (refl, refl); unlisted = refl }
-next_of_holder_means Grown2 = record { names = names; command = refl; plain = (refl, refl); unlisted = refl }
-next_of_holder_means Made3 = record { names = names; command = refl; plain = (refl, refl); unlisted = refl }
-next_of_holder_means Grown3From2 = record { names = names; command = refl; plain = (refl, refl); unlisted = refl }
-next_of_holder_means Grown3From1 = record { names = names; command = refl; plain = (refl, refl); unlisted = refl }
+of_holders_above_means_in more indexes views still = record { names = names; command = refl; plain = (refl, refl); unlisted = refl }
 
 pub of_holders_above_means : (l : Layout) → MeansSelect (schema_of l) OF_HOLDERS_ABOVE.now 4 above_tests all_columns by_serial
-unfolding understood everything
-of_holders_above_means Made1 = record { names = names; command = refl; plain = (refl, refl); unlisted = refl }
-of_holders_above_means Made2 = record { names = names; command = refl; plain = (refl, refl); unlisted = refl }
-of_holders_above_means Grown2 = record { names = names; command = refl; plain = (refl, refl); unlisted = refl }
-of_holders_above_means Made3 = record { names = names; command = refl; plain = (refl, refl); unlisted = refl }
-of_holders_above_means Grown3From2 = record { names = names; command = refl; plain = (refl, refl); unlisted = refl }
-of_holders_above_means Grown3From1 = record { names = names; command = refl; plain = (refl, refl); unlisted = refl }
+of_holders_above_means = in_each (λ s. MeansSelect s OF_HOLDERS_ABOVE.now 4 above_tests all_columns by_serial) of_holders_above_means_in
 
 -- the columns of deadlines
 abbrev pub deadline_columns : List Term
@@ -153,14 +138,12 @@ deadline_columns = col 1 1 ∷ col 1 3 ∷ col 1 8 ∷ col 1 9 ∷ col 1 10 ∷ 
 abbrev deadline_names : List (List ℕ)
 deadline_names = codes "holder" ∷ codes "mrn" ∷ codes "state" ∷ codes "limit_day" ∷ codes "arrival" ∷ []
 
-pub deadlines_mean : (l : Layout) → MeansSelect (schema_of l) DEADLINES.now 4 [] deadline_columns by_serial
+deadlines_mean_in : (more : List Table) (indexes : List Index) (views : List View) → are_still more ≡ true → MeansSelect (wider more indexes views) DEADLINES.now 4 [] deadline_columns by_serial
 unfolding understood everything
-deadlines_mean Made1 = record { names = deadline_names; command = refl; plain = (refl, refl); unlisted = refl }
-deadlines_mean Made2 = record { names = deadline_names; command = refl; plain = (refl, refl); unlisted = refl }
-deadlines_mean Grown2 = record { names = deadline_names; command = refl; plain = (refl, refl); unlisted = refl }
-deadlines_mean Made3 = record { names = deadline_names; command = refl; plain = (refl, refl); unlisted = refl }
-deadlines_mean Grown3From2 = record { names = deadline_names; command = refl; plain = (refl, refl); unlisted = refl }
-deadlines_mean Grown3From1 = record { names = deadline_names; command = refl; plain = (refl, refl); unlisted = refl }
+deadlines_mean_in more indexes views still = record { names = deadline_names; command = refl; plain = (refl, refl); unlisted = refl }
+
+pub deadlines_mean : (l : Layout) → MeansSelect (schema_of l) DEADLINES.now 4 [] deadline_columns by_serial
+deadlines_mean = in_each (λ s. MeansSelect s DEADLINES.now 4 [] deadline_columns by_serial) deadlines_mean_in
 
 -- what a list shows
 abbrev pub listed_columns : List Term
@@ -169,24 +152,20 @@ listed_columns = col 1 3 ∷ col 1 4 ∷ col 1 8 ∷ []
 abbrev listed_names : List (List ℕ)
 listed_names = codes "mrn" ∷ codes "lrn" ∷ codes "state" ∷ []
 
-pub listed_means : (l : Layout) → MeansSelect (schema_of l) LISTED_WITHIN.now 4 within_tests listed_columns by_serial
+listed_means_in : (more : List Table) (indexes : List Index) (views : List View) → are_still more ≡ true → MeansSelect (wider more indexes views) LISTED_WITHIN.now 4 within_tests listed_columns by_serial
 unfolding understood everything
-listed_means Made1 = record { names = listed_names; command = refl; plain = (refl, refl); unlisted = refl }
-listed_means Made2 = record { names = listed_names; command = refl; plain = (refl, refl); unlisted = refl }
-listed_means Grown2 = record { names = listed_names; command = refl; plain = (refl, refl); unlisted = refl }
-listed_means Made3 = record { names = listed_names; command = refl; plain = (refl, refl); unlisted = refl }
-listed_means Grown3From2 = record { names = listed_names; command = refl; plain = (refl, refl); unlisted = refl }
-listed_means Grown3From1 = record { names = listed_names; command = refl; plain = (refl, refl); unlisted = refl }
+listed_means_in more indexes views still = record { names = listed_names; command = refl; plain = (refl, refl); unlisted = refl }
+
+pub listed_means : (l : Layout) → MeansSelect (schema_of l) LISTED_WITHIN.now 4 within_tests listed_columns by_serial
+listed_means = in_each (λ s. MeansSelect s LISTED_WITHIN.now 4 within_tests listed_columns by_serial) listed_means_in
 
 -- the serial alone
 abbrev pub serial_column : List Term
 serial_column = col 1 2 ∷ []
 
-pub counting_means : (l : Layout) → MeansSelect (schema_of l) COUNTING_SERIALS.now 4 counting_tests serial_column by_serial
+counting_means_in : (more : List Table) (indexes : List Index) (views : List View) → are_still more ≡ true → MeansSelect (wider more indexes views) COUNTING_SERIALS.now 4 counting_tests serial_column by_serial
 unfolding understood everything
-counting_means Made1 = record { names = codes "serial" ∷ []; command = refl; plain = (refl, refl); unlisted = refl }
-counting_means Made2 = record { names = codes "serial" ∷ []; command = refl; plain = (refl, refl); unlisted = refl }
-counting_means Grown2 = record { names = codes "serial" ∷ []; command = refl; plain = (refl, refl); unlisted = refl }
-counting_means Made3 = record { names = codes "serial" ∷ []; command = refl; plain = (refl, refl); unlisted = refl }
-counting_means Grown3From2 = record { names = codes "serial" ∷ []; command = refl; plain = (refl, refl); unlisted = refl }
-counting_means Grown3From1 = record { names = codes "serial" ∷ []; command = refl; plain = (refl, refl); unlisted = refl }
+counting_means_in more indexes views still = record { names = codes "serial" ∷ []; command = refl; plain = (refl, refl); unlisted = refl }
+
+pub counting_means : (l : Layout) → MeansSelect (schema_of l) COUNTING_SERIALS.now 4 counting_tests serial_column by_serial
+counting_means = in_each (λ s. MeansSelect s COUNTING_SERIALS.now 4 counting_tests serial_column by_serial) counting_means_in
