@@ -11,7 +11,7 @@ use Rattle.sqlite.specs.Effect.{Database}
 use Rattle.sqlite.specs.State.{State, HasCleanDisk, IsRolledBack, Survives}
 use Rattle.td_model.specs.Content.{Content}
 use Rattle.td_table_model.specs.Tables.{Tables}
-use Rattle.typed_sql.specs.Reading.{HasOnlyRead, IsInside, StaysInside}
+use Rattle.typed_sql.specs.Reading.{HasOnlyRead, StaysInside}
 use Rattle.typed_sql.proofs.OnlyRead.{none_read, stays_nothing, stays_on}
 use Rattle.td_store_rows.specs.StoreReads.{OnlyReadNewest, ReadsNewest}
 use Rattle.td_store_rows.specs.StoreTables.{HoldsContent, TurnsTables, tables_in}
@@ -54,10 +54,10 @@ pub record HasCopied (picked : Tables → Rows) (a b old new : State) : Type 0 w
   pub within : StaysInside true old new
   pub copies : HasCleanDisk b → HasCleanDisk new → Copies picked a old new
 
-pub nothing_copied : (picked : Tables → Rows) (a : State) → PickSame a (λ t. no_rows) picked → (old : State) → IsInside a → IsInside old → HasCopied picked a a old old
-nothing_copied picked a none old reading writing = record {
-  reads = record { still = λ clean well l own. none_read a; within = stays_nothing reading };
-  within = stays_nothing writing;
+pub nothing_copied : (picked : Tables → Rows) (a : State) → PickSame a (λ t. no_rows) picked → (old : State) → HasCopied picked a a old old
+nothing_copied picked a none old = record {
+  reads = record { still = λ clean well l own. none_read a; within = stays_nothing };
+  within = stays_nothing;
   copies = λ clean clean_old c holds.
       turned_none (picked (tables_in holds.trees.layout a.now.trees)) (none c holds) old;
 }
@@ -85,11 +85,11 @@ pub looks_dropped : {S : Type 0} (g : Ghosts S) (old : Held S) (read new : State
 looks_dropped g old read new committed within undone dropped =
     let before : HasCleanDisk new → HasCleanDisk read = λ clean. omega (arith, clean, dropped.clean) in
     record {
-      live = λ clean is. (within.kept (before clean)).was_open ((undone clean).was_open is);
+      live = λ clean is. (within.kept (before clean) refl).was_open ((undone clean).was_open is);
       shown = λ clean well. absurd (false≢true well);
       same = λ clean is.
           let was : IsRolledBack read new = undone clean in
-          (was.undone is).0 ∙ (within.kept (before clean)).committed (was.was_open is) ∙ sym (committed ((within.kept (before clean)).was_open (was.was_open is)));
+          (was.undone is).0 ∙ (within.kept (before clean) refl).committed (was.was_open is) ∙ sym (committed ((within.kept (before clean) refl).was_open (was.was_open is)));
       crash = survives_begin g old new (λ _. ⊥)
           (survives_then (state g (record old { in_transaction = true })) read new (λ _. ⊥) (λ _. ⊥) (λ _. ⊥) (λ _ db none. none) (λ _ db none. none) within.survives dropped);
     }

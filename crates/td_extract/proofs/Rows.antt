@@ -5,7 +5,7 @@ use Rattle.std.proofs.lemmas.List.Sorted.{IsPermutation-append, IsPermutation-ma
 use Rattle.sqlite.specs.State.{State, HasCleanDisk}
 use Rattle.td_table_model.specs.Changes.{HaveSameRows}
 use Rattle.td_table_model.specs.Tables.{Tables, without_amount}
-use Rattle.typed_sql.specs.Reading.{IsInside, StaysInside}
+use Rattle.typed_sql.specs.Reading.{StaysInside}
 use Rattle.typed_sql.proofs.OnlyRead.{stays_nothing, stays_on}
 use Rattle.td_store_rows.specs.StoreTables.{TurnsTables}
 use Rattle.td_store_rows.proofs.Chained.{RespectsRows, append_respects, turned_as, turned_nothing, turned_then}
@@ -108,8 +108,8 @@ pub record HasPut (r : Rows) (old new : State) : Type 0 where
   pub tables : HasCleanDisk new → TurnsTables (with_rows r) old new
   pub within : StaysInside true old new
 
-pub nothing_put : (a : State) → IsInside a → HasPut no_rows a a
-nothing_put a inside = record { tables = λ clean. turned_none no_rows (same_self no_rows) a; within = stays_nothing inside }
+pub nothing_put : (a : State) → HasPut no_rows a a
+nothing_put a = record { tables = λ clean. turned_none no_rows (same_self no_rows) a; within = stays_nothing }
 
 pub put_then : (r s u : Rows) → AreSame (both r s) u → (a b d : State) → HasPut r a b → HasPut s b d → HasPut u a d
 put_then r s u same a b d first second = record {

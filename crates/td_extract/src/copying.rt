@@ -4,7 +4,7 @@
 ghost use Rattle.std.specs.Prelude.{◌≡◌, ◌+◌, IfOk, OnOk, is_ok};
 ghost use Rattle.sqlite.specs.Held.{state};
 ghost use Rattle.sqlite.specs.State.{HasCleanDisk};
-ghost use Rattle.typed_sql.specs.Reading.{IsInside, StaysInside};
+ghost use Rattle.typed_sql.specs.Reading.{StaysInside};
 ghost use Rattle.td_store_rows.specs.StoreReads.{ReadsNewest};
 ghost use Rattle.td_extract.specs.Copied.{Copies, codes_within as own_codes, guarantees_within, kept_within as own_kept, lines_within as own_lines, movements_within as own_movements, of_row, rows_within};
 
@@ -27,8 +27,6 @@ fn copy_kept<S: Alter, T: Alter>(
     first: u32,
     end: u32,
 ) -> Result<(), Error>
-    requires reading { IsInside (state S.Store from.old.conn.now) }
-    requires writing { IsInside (state T.Store to.old.conn.now) }
     ensures same_source { from.new.conn.ghost_name ≡ from.old.conn.ghost_name }
     ensures same_target { to.new.conn.ghost_name ≡ to.old.conn.ghost_name }
     ensures copied { HasCleanDisk (state S.Store from.new.conn.now) → HasCleanDisk (state T.Store to.new.conn.now)
@@ -49,8 +47,6 @@ fn copy_codes<S: Alter, T: Alter>(
     first: u32,
     end: u32,
 ) -> Result<(), Error>
-    requires reading { IsInside (state S.Store from.old.conn.now) }
-    requires writing { IsInside (state T.Store to.old.conn.now) }
     ensures same_source { from.new.conn.ghost_name ≡ from.old.conn.ghost_name }
     ensures same_target { to.new.conn.ghost_name ≡ to.old.conn.ghost_name }
     ensures copied { HasCleanDisk (state S.Store from.new.conn.now) → HasCleanDisk (state T.Store to.new.conn.now)
@@ -71,8 +67,6 @@ fn copy_rows<S: Alter, T: Alter>(
     first: u32,
     end: u32,
 ) -> Result<(), Error>
-    requires reading { IsInside (state S.Store from.old.conn.now) }
-    requires writing { IsInside (state T.Store to.old.conn.now) }
     ensures same_source { from.new.conn.ghost_name ≡ from.old.conn.ghost_name }
     ensures same_target { to.new.conn.ghost_name ≡ to.old.conn.ghost_name }
     ensures copied { HasCleanDisk (state S.Store from.new.conn.now) → HasCleanDisk (state T.Store to.new.conn.now)
@@ -93,8 +87,6 @@ fn copy_lines<S: Alter, T: Alter>(
     first: u32,
     end: u32,
 ) -> Result<(), Error>
-    requires reading { IsInside (state S.Store from.old.conn.now) }
-    requires writing { IsInside (state T.Store to.old.conn.now) }
     ensures same_source { from.new.conn.ghost_name ≡ from.old.conn.ghost_name }
     ensures same_target { to.new.conn.ghost_name ≡ to.old.conn.ghost_name }
     ensures copied { HasCleanDisk (state S.Store from.new.conn.now) → HasCleanDisk (state T.Store to.new.conn.now)
@@ -114,8 +106,6 @@ fn copy_guarantees<S: Alter, T: Alter>(
     holder: HolderNo,
     end: u32,
 ) -> Result<(), Error>
-    requires reading { IsInside (state S.Store from.old.conn.now) }
-    requires writing { IsInside (state T.Store to.old.conn.now) }
     ensures same_source { from.new.conn.ghost_name ≡ from.old.conn.ghost_name }
     ensures same_target { to.new.conn.ghost_name ≡ to.old.conn.ghost_name }
     ensures copied { HasCleanDisk (state S.Store from.new.conn.now) → HasCleanDisk (state T.Store to.new.conn.now)
@@ -141,8 +131,6 @@ fn copy_movements<S: Alter, T: Alter>(
     holder: HolderNo,
     end: u32,
 ) -> Result<(), Error>
-    requires reading { IsInside (state S.Store from.old.conn.now) }
-    requires writing { IsInside (state T.Store to.old.conn.now) }
     ensures same_source { from.new.conn.ghost_name ≡ from.old.conn.ghost_name }
     ensures same_target { to.new.conn.ghost_name ≡ to.old.conn.ghost_name }
     ensures copied { HasCleanDisk (state S.Store from.new.conn.now) → HasCleanDisk (state T.Store to.new.conn.now)
@@ -176,8 +164,6 @@ pub(crate) fn copy_holder<S: Alter, T: Alter>(
     to: &mut Transaction<'_, T>,
     row: &HolderRow,
 ) -> Result<(), Error>
-    requires reading { IsInside (state S.Store from.old.conn.now) }
-    requires writing { IsInside (state T.Store to.old.conn.now) }
     ensures same_source { from.new.conn.ghost_name ≡ from.old.conn.ghost_name }
     ensures same_target { to.new.conn.ghost_name ≡ to.old.conn.ghost_name }
     ensures copied { HasCleanDisk (state S.Store from.new.conn.now) → HasCleanDisk (state T.Store to.new.conn.now)

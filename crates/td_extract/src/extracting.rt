@@ -3,7 +3,7 @@ ghost use Rattle.std.specs.Prelude.{◌≡◌, false, Err, IsTrue, OnErr, OnOk, 
 ghost use Rattle.sqlite.specs.Held.{state};
 ghost use Rattle.sqlite.specs.State.{HasCleanDisk, Survives};
 ghost use Rattle.typed_sql.specs.Outside.{CrashLeavesShown, Looks};
-ghost use Rattle.typed_sql.specs.Reading.{IsInside, StaysInside};
+ghost use Rattle.typed_sql.specs.Reading.{StaysInside};
 ghost use Rattle.td_schema.specs.Tables.{IsEmptyOf, no_schema};
 ghost use Rattle.td_store_rows.specs.StoreReads.{HasNewestTables, ReadsNewest};
 ghost use Rattle.td_extract.specs.Extracted.{Extracts, MakesTables, MayLeaveExtract};
@@ -29,8 +29,6 @@ fn write_extract<S: Alter, T: Alter>(
     first: HolderNo,
     last: HolderNo,
 ) -> Result<(), Error>
-    requires reading { IsInside (state S.Store from.old.conn.now) }
-    requires writing { IsInside (state T.Store to.old.conn.now) }
     ensures same_source { from.new.conn.ghost_name ≡ from.old.conn.ghost_name }
     ensures same_target { to.new.conn.ghost_name ≡ to.old.conn.ghost_name }
     ensures written { HasCleanDisk (state S.Store from.new.conn.now) → HasCleanDisk (state T.Store to.new.conn.now)
@@ -56,7 +54,6 @@ fn write_from<S: Alter, T: Alter>(
 ) -> Result<(), Error>
     requires outside { from.old.in_transaction ≡ false }
     requires tables { HasCleanDisk (state S.Store from.old) → HasNewestTables (state S.Store from.old) }
-    requires writing { IsInside (state T.Store to.old.conn.now) }
     ensures ended { from.new.in_transaction ≡ false }
     ensures looks { Looks (is_ok result) (state S.Store from.old) (state S.Store from.new) }
     ensures same_target { to.new.conn.ghost_name ≡ to.old.conn.ghost_name }

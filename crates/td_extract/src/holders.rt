@@ -3,7 +3,7 @@
 ghost use Rattle.std.specs.Prelude.{◌≡◌, ◌<◌, ◌≤◌, IfOk, IfSome, OnOk, is_ok};
 ghost use Rattle.sqlite.specs.Held.{state};
 ghost use Rattle.sqlite.specs.State.{HasCleanDisk};
-ghost use Rattle.typed_sql.specs.Reading.{IsInside, StaysInside};
+ghost use Rattle.typed_sql.specs.Reading.{StaysInside};
 ghost use Rattle.td_store_rows.specs.StoreReads.{ReadsNewest};
 ghost use Rattle.td_extract.specs.Copied.{Copies, of_holders};
 ghost use Rattle.td_extract.specs.Extracted.{IsNextOf};
@@ -24,7 +24,6 @@ pub fn next_holder<S: Alter>(
     number: u32,
     last: u32,
 ) -> Result<Option<HolderRow>, Error>
-    requires { IsInside (state S.Store tx.old.conn.now) }
     ensures same_reference { tx.new.conn.ghost_name ≡ tx.old.conn.ghost_name }
     ensures found { HasCleanDisk (state S.Store tx.new.conn.now)
         → IfOk result (IsNextOf number last (state S.Store tx.old.conn.now)) }
@@ -54,8 +53,6 @@ pub fn copy_holders<S: Alter, T: Alter>(
     first: u32,
     last: u32,
 ) -> Result<(), Error>
-    requires reading { IsInside (state S.Store from.old.conn.now) }
-    requires writing { IsInside (state T.Store to.old.conn.now) }
     requires begins { 1 ≤ first }
     ensures same_source { from.new.conn.ghost_name ≡ from.old.conn.ghost_name }
     ensures same_target { to.new.conn.ghost_name ≡ to.old.conn.ghost_name }

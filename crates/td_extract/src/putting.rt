@@ -2,7 +2,7 @@
 ghost use Rattle.std.specs.Prelude.{◌≡◌, map, OnOk, is_ok};
 ghost use Rattle.sqlite.specs.Held.{state};
 ghost use Rattle.sqlite.specs.State.{HasCleanDisk};
-ghost use Rattle.typed_sql.specs.Reading.{IsInside, StaysInside};
+ghost use Rattle.typed_sql.specs.Reading.{StaysInside};
 ghost use Rattle.td_store_rows.specs.CodeTable.{code_row_of};
 ghost use Rattle.td_store_rows.specs.LineTable.{line_row_of};
 ghost use Rattle.td_store_rows.specs.StoreTables.{TurnsTables};
@@ -20,7 +20,6 @@ pub(crate) fn put_guarantees<T: Alter>(
     tx: &mut Transaction<'_, T>,
     rows: &[KeptGuarantee],
 ) -> Result<(), Error>
-    requires { IsInside (state T.Store tx.old.conn.now) }
     ensures same_reference { tx.new.conn.ghost_name ≡ tx.old.conn.ghost_name }
     ensures put { HasCleanDisk (state T.Store tx.new.conn.now) → OnOk result (TurnsTables
         (with_rows (record no_rows { kept = map bare_kept rows.now })) (state T.Store tx.old.conn.now) (state T.Store tx.new.conn.now)) }
@@ -37,7 +36,6 @@ pub(crate) fn put_codes<T: Alter>(
     tx: &mut Transaction<'_, T>,
     rows: &[StoredCode],
 ) -> Result<(), Error>
-    requires { IsInside (state T.Store tx.old.conn.now) }
     ensures same_reference { tx.new.conn.ghost_name ≡ tx.old.conn.ghost_name }
     ensures put { HasCleanDisk (state T.Store tx.new.conn.now) → OnOk result (TurnsTables
         (with_rows (record no_rows { codes = map code_row_of rows.now })) (state T.Store tx.old.conn.now) (state T.Store tx.new.conn.now)) }
@@ -54,7 +52,6 @@ pub(crate) fn put_movements<T: Alter>(
     tx: &mut Transaction<'_, T>,
     rows: &[StoredMovement],
 ) -> Result<(), Error>
-    requires { IsInside (state T.Store tx.old.conn.now) }
     ensures same_reference { tx.new.conn.ghost_name ≡ tx.old.conn.ghost_name }
     ensures put { HasCleanDisk (state T.Store tx.new.conn.now) → OnOk result (TurnsTables
         (with_rows (record no_rows { movements = map bare_movement rows.now })) (state T.Store tx.old.conn.now) (state T.Store tx.new.conn.now)) }
@@ -71,7 +68,6 @@ pub(crate) fn put_lines<T: Alter>(
     tx: &mut Transaction<'_, T>,
     rows: &[StoredLine],
 ) -> Result<(), Error>
-    requires { IsInside (state T.Store tx.old.conn.now) }
     ensures same_reference { tx.new.conn.ghost_name ≡ tx.old.conn.ghost_name }
     ensures put { HasCleanDisk (state T.Store tx.new.conn.now) → OnOk result (TurnsTables
         (with_rows (record no_rows { lines = map line_row_of rows.now })) (state T.Store tx.old.conn.now) (state T.Store tx.new.conn.now)) }

@@ -1,5 +1,5 @@
 -- Connections whose transactions are begun, and what is told of them before that.
-use Rattle.std.proofs.Common.{Err, Ok, Result, ◌≡◌, ◌∙◌, true, false, ap, sym, subst, arith}
+use Rattle.std.proofs.Common.{Err, Ok, Result, ◌≡◌, ◌∙◌, true, false, ap, refl, sym, subst, arith}
 use Rattle.std.proofs.lemmas.Bool.{false≢true}
 use Rattle.std.specs.Prelude.{Bool, IfErr, IsErrAnd, IsTrue}
 use Rattle.sqlite_trees.specs.declared.store.Store.{Ghosts}
@@ -48,11 +48,11 @@ module _ {S : Type 0} (g : Ghosts S) (old : Held S) where
   looks_dropped read new committed within undone dropped =
       let before : HasCleanDisk new → HasCleanDisk read = λ clean. omega (arith, clean, dropped.clean) in
       record {
-        live = λ clean is. (within.kept (before clean)).was_open ((undone clean).was_open is);
+        live = λ clean is. (within.kept (before clean) refl).was_open ((undone clean).was_open is);
         shown = λ clean well. absurd (false≢true well);
         same = λ clean is.
             let was : IsRolledBack read new = undone clean in
-            (was.undone is).0 ∙ (within.kept (before clean)).committed (was.was_open is) ∙ sym (committed ((within.kept (before clean)).was_open (was.was_open is)));
+            (was.undone is).0 ∙ (within.kept (before clean) refl).committed (was.was_open is) ∙ sym (committed ((within.kept (before clean) refl).was_open (was.was_open is)));
         crash = survives_begin g old new (λ _. ⊥)
             (survives_then begun read new (λ _. ⊥) (λ _. ⊥) (λ _. ⊥) (λ _ db none. none) (λ _ db none. none) within.survives dropped);
       }
@@ -70,7 +70,7 @@ module _ {S : Type 0} (g : Ghosts S) (old : Held S) where
         let clean_shown : HasCleanDisk shown = omega (arith, clean, ended.clean) in
         let clean_written : HasCleanDisk written = omega (arith, clean_shown, within.survives.clean) in
         let same : IsUnchanged written shown = still clean_shown in (
-          (inside.kept clean_shown).was_open same.0.is_open,
+          (inside.kept clean_shown refl).was_open same.0.is_open,
           λ clean_seen c d holds others country.
               subst (AreTreesOf (joined c d)) (sym (is ∙ ap (λ (x : Database). x.trees) same.0.now_is))
               (joins clean_seen clean_written c d holds (held_begun d others) country).trees,

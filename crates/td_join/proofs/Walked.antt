@@ -9,7 +9,6 @@ use Rattle.td_model.specs.Account.{Account}
 use Rattle.td_model.specs.Content.{Content, account_in, rows_of}
 use Rattle.td_table_model.specs.Tables.{Tables}
 use Rattle.td_table_model.proofs.Looked.{account_is, find_first, first, short_permutation}
-use Rattle.typed_sql.specs.Reading.{IsInside}
 use Rattle.typed_sql.proofs.OnlyRead.{none_read, stays_nothing}
 use Rattle.td_store_rows.specs.HolderTable.{IsTheHolder}
 use Rattle.td_store_rows.specs.StoreReads.{OnlyReadNewest, ReadsNewest}
@@ -52,13 +51,13 @@ pub record HasMetNone (number : ℕ) (a b o p : State) : Type 0 where
   pub none : HasCleanDisk b → HasCleanDisk p → (c d : Content) → HoldsContent c a → HoldsContent d o → AreApartUpTo number c d
 
 -- no call yet
-nothing_read : (a : State) → IsInside a → ReadsNewest true a a
-nothing_read a inside = record { still = λ clean well l newest. none_read a; within = stays_nothing inside }
+nothing_read : (a : State) → ReadsNewest true a a
+nothing_read a = record { still = λ clean well l newest. none_read a; within = stays_nothing }
 
-pub met_nobody : (a o : State) → IsInside a → IsInside o → HasMetNone 0 a a o o
-met_nobody a o reading writing = record {
-  reads = nothing_read a reading;
-  looks = nothing_read o writing;
+pub met_nobody : (a o : State) → HasMetNone 0 a a o o
+met_nobody a o = record {
+  reads = nothing_read a;
+  looks = nothing_read o;
   none = λ clean clean_o c d holds others. apart_at_first c d holds.trees.sound;
 }
 

@@ -2,7 +2,6 @@
 ghost use Rattle.std.specs.Prelude.{◌≡◌, IfOk, is_ok};
 ghost use Rattle.sqlite.specs.Held.{state};
 ghost use Rattle.sqlite.specs.State.{HasCleanDisk};
-ghost use Rattle.typed_sql.specs.Reading.{IsInside};
 ghost use Rattle.td_store_rows.specs.StoreReads.{ReadsNewest};
 ghost use Rattle.td_join.specs.Joining.{IsFirstIn};
 
@@ -25,8 +24,6 @@ pub(crate) fn first_of_both<S: Alter, T: Alter>(
     from: &mut Transaction<'_, S>,
     to: &mut Transaction<'_, T>,
 ) -> Result<Option<HolderNo>, Error>
-    requires reading { IsInside (state S.Store from.old.conn.now) }
-    requires writing { IsInside (state T.Store to.old.conn.now) }
     ensures same_source { from.new.conn.ghost_name ≡ from.old.conn.ghost_name }
     ensures same_target { to.new.conn.ghost_name ≡ to.old.conn.ghost_name }
     ensures found { HasCleanDisk (state S.Store from.new.conn.now) → HasCleanDisk (state T.Store to.new.conn.now)

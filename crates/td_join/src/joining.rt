@@ -3,7 +3,7 @@ ghost use Rattle.std.specs.Prelude.{◌≡◌, false, IfErr, IsTrue, OnErr, OnOk
 ghost use Rattle.sqlite.specs.Held.{state};
 ghost use Rattle.sqlite.specs.State.{HasCleanDisk, Survives};
 ghost use Rattle.typed_sql.specs.Outside.{CrashLeavesShown, Looks};
-ghost use Rattle.typed_sql.specs.Reading.{IsInside, StaysInside};
+ghost use Rattle.typed_sql.specs.Reading.{StaysInside};
 ghost use Rattle.td_store_rows.specs.StoreReads.{HasNewestTables, ReadsNewest};
 ghost use Rattle.td_join.specs.Joining.{Joins, MayLeaveJoined, TellsWhoStood, WereApart};
 
@@ -21,8 +21,6 @@ fn join_rows<S: Alter, T: Alter>(
     from: &mut Transaction<'_, S>,
     to: &mut Transaction<'_, T>,
 ) -> Result<(), JoinFault>
-    requires reading { IsInside (state S.Store from.old.conn.now) }
-    requires writing { IsInside (state T.Store to.old.conn.now) }
     ensures same_source { from.new.conn.ghost_name ≡ from.old.conn.ghost_name }
     ensures same_target { to.new.conn.ghost_name ≡ to.old.conn.ghost_name }
     ensures joined { HasCleanDisk (state S.Store from.new.conn.now) → HasCleanDisk (state T.Store to.new.conn.now)
@@ -49,7 +47,6 @@ fn join_from<S: Alter, T: Alter>(
 ) -> Result<(), JoinFault>
     requires outside { from.old.in_transaction ≡ false }
     requires tables { HasCleanDisk (state S.Store from.old) → HasNewestTables (state S.Store from.old) }
-    requires writing { IsInside (state T.Store to.old.conn.now) }
     ensures ended { from.new.in_transaction ≡ false }
     ensures looks { Looks (is_ok result) (state S.Store from.old) (state S.Store from.new) }
     ensures same_target { to.new.conn.ghost_name ≡ to.old.conn.ghost_name }

@@ -12,7 +12,7 @@ use Rattle.sqlite_trees.specs.Tree.{Trees}
 use Rattle.td_schema.specs.Layouts.{grown, schema_of}
 use Rattle.td_schema.specs.declared.layout.Layout.{Layout}
 use Rattle.typed_sql.proofs.OnlyRead.{stays_nothing, stays_on}
-use Rattle.typed_sql.specs.Reading.{HasOnlyRead, IsInside, StaysInside}
+use Rattle.typed_sql.specs.Reading.{HasOnlyRead, StaysInside}
 use Rattle.typed_sql.specs.Typed.{AreTyped, HasNow, IsTypedRow, Typing, typed_rows}
 use Rattle.typed_sql.specs.Writing.{AreOthersKept, HaveIds}
 use Rattle.td_store_rows.specs.StoreReads.{ReadsIn}
@@ -79,10 +79,10 @@ module _ {R : Type 0} (At : Layout → Type 0) (ty : Layout → Typing R) where
     pub put : HasCleanDisk new → Puts At ty Q rows old new
 
   -- no call
-  pub nothing_put : (Q : Layout → Trees → Type 0) (rows : Layout → Trees → List R) (a : State) → IsInside a
+  pub nothing_put : (Q : Layout → Trees → Type 0) (rows : Layout → Trees → List R) (a : State)
       → ((l : Layout) → At l → (x : Trees) → Q l x → rows l x ≡ []) → HasPut Q rows a a
-  nothing_put Q rows a inside none = record {
-    within = stays_nothing inside;
+  nothing_put Q rows a none = record {
+    within = stays_nothing;
     put = λ clean l at has typed q.
         subst (λ k. ArePut (ty (grown l)) (schema_of (grown l)) k a.now a.now) (sym (none l at a.now.trees q)) (none_put (ty (grown l)) (schema_of (grown l)) a.now has typed);
   }

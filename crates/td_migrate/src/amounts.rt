@@ -7,7 +7,6 @@ ghost use Rattle.std.specs.List.{AllByRecursion};
 ghost use Rattle.keyed_rows.specs.Rows.{Rises};
 ghost use Rattle.sqlite.specs.Held.{state};
 ghost use Rattle.sqlite.specs.State.{HasCleanDisk};
-ghost use Rattle.typed_sql.specs.Reading.{IsInside};
 ghost use Rattle.td_table_model.specs.Tables.{version_with_amounts};
 ghost use Rattle.td_store_rows.specs.StoreReads.{ReadsVersion};
 ghost use Rattle.td_store_rows.specs.MovementTable.{serial_of_stored};
@@ -60,7 +59,6 @@ fn sums_below<S: Alter>(
     serials: &[MovementSerial],
     end: u32,
 ) -> Result<Totals, Error>
-    requires inside { IsInside (state S.Store tx.old.conn.now) }
     requires rise { Rises serial_of_stored 0 serials.now }
     ensures same_reference { tx.new.conn.ghost_name ≡ tx.old.conn.ghost_name }
     ensures summed { HasCleanDisk (state S.Store tx.new.conn.now)
@@ -88,7 +86,6 @@ pub(crate) fn amounts_in_use<S: Alter>(
     raw: &RawHolder,
     guarantees: u32,
 ) -> Result<Totals, Error>
-    requires { IsInside (state S.Store tx.old.conn.now) }
     ensures same_reference { tx.new.conn.ghost_name ≡ tx.old.conn.ghost_name }
     ensures found { HasCleanDisk (state S.Store tx.new.conn.now)
         → IfOk result (AreInUse raw.now.holder (unwrap_or raw.now.mrn_count 0 + 1) (state S.Store tx.old.conn.now)) }

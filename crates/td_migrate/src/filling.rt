@@ -3,7 +3,7 @@
 ghost use Rattle.std.specs.Prelude.{◌≡◌, ℕ, [], ◌∷◌, map, IfOk, OnOk, is_ok};
 ghost use Rattle.sqlite.specs.Held.{state};
 ghost use Rattle.sqlite.specs.State.{HasCleanDisk};
-ghost use Rattle.typed_sql.specs.Reading.{IsInside, StaysInside};
+ghost use Rattle.typed_sql.specs.Reading.{StaysInside};
 ghost use Rattle.td_store_rows.specs.GuaranteeTable.{guarantee_row_of};
 ghost use Rattle.td_store_rows.specs.StoreReads.{ReadsIn};
 ghost use Rattle.td_store_audit.specs.Totals.{AreTotals};
@@ -34,7 +34,6 @@ fn first_within<S: Alter>(
     first: u32,
     end: u32,
 ) -> Result<Vec<StoredGuarantee>, Error>
-    requires { IsInside (state S.Store tx.old.conn.now) }
     ensures same_reference { tx.new.conn.ghost_name ≡ tx.old.conn.ghost_name }
     ensures found { HasCleanDisk (state S.Store tx.new.conn.now)
         → IfOk result (λ found. AreFirstWithin holder first end (state S.Store tx.old.conn.now) (map guarantee_row_of found.items)) }
@@ -49,7 +48,6 @@ fn put_row<S: Alter>(
     totals: &Totals,
     row: &StoredGuarantee,
 ) -> Result<(), Error>
-    requires { IsInside (state S.Store tx.old.conn.now) }
     ensures same_reference { tx.new.conn.ghost_name ≡ tx.old.conn.ghost_name }
     ensures filled { HasCleanDisk (state S.Store tx.new.conn.now) → OnOk result ((sums : ℕ → ℕ) → AreTotals sums totals.now
         → FillsWith sums (guarantee_row_of row.now ∷ []) (state S.Store tx.old.conn.now) (state S.Store tx.new.conn.now)) }
@@ -67,7 +65,6 @@ fn put_rows<S: Alter>(
     totals: &Totals,
     rows: &[StoredGuarantee],
 ) -> Result<(), Error>
-    requires { IsInside (state S.Store tx.old.conn.now) }
     ensures same_reference { tx.new.conn.ghost_name ≡ tx.old.conn.ghost_name }
     ensures filled { HasCleanDisk (state S.Store tx.new.conn.now) → OnOk result ((sums : ℕ → ℕ) → AreTotals sums totals.now
         → FillsWith sums (map guarantee_row_of rows.now) (state S.Store tx.old.conn.now) (state S.Store tx.new.conn.now)) }
@@ -87,7 +84,6 @@ fn put_below<S: Alter>(
     end: u32,
     totals: &Totals,
 ) -> Result<(), Error>
-    requires { IsInside (state S.Store tx.old.conn.now) }
     ensures same_reference { tx.new.conn.ghost_name ≡ tx.old.conn.ghost_name }
     ensures filled { HasCleanDisk (state S.Store tx.new.conn.now) → OnOk result ((sums : ℕ → ℕ) → AreTotals sums totals.now
         → FillsWithin sums holder end (state S.Store tx.old.conn.now) (state S.Store tx.new.conn.now)) }
@@ -109,7 +105,6 @@ fn put_of<S: Alter>(
     tx: &mut Transaction<'_, S>,
     raw: &RawHolder,
 ) -> Result<(), Error>
-    requires { IsInside (state S.Store tx.old.conn.now) }
     ensures same_reference { tx.new.conn.ghost_name ≡ tx.old.conn.ghost_name }
     ensures filled { HasCleanDisk (state S.Store tx.new.conn.now)
         → OnOk result (FillsOf raw.now (state S.Store tx.old.conn.now) (state S.Store tx.new.conn.now)) }
@@ -125,7 +120,6 @@ fn put_of<S: Alter>(
 /// `OutOfMemory`: want of memory; any other error is the database's own: so it is where more is in use on a guarantee than its
 /// reference amount.
 pub(crate) fn fill<S: Alter>(alloc: Global, tx: &mut Transaction<'_, S>) -> Result<(), Error>
-    requires { IsInside (state S.Store tx.old.conn.now) }
     ensures same_reference { tx.new.conn.ghost_name ≡ tx.old.conn.ghost_name }
     ensures filled { HasCleanDisk (state S.Store tx.new.conn.now)
         → OnOk result (FillsAll (state S.Store tx.old.conn.now) (state S.Store tx.new.conn.now)) }

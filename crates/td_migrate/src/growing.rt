@@ -2,7 +2,7 @@
 ghost use Rattle.std.specs.Prelude.{◌≡◌, false, IsTrue, OnOk, OnErr, is_ok};
 ghost use Rattle.sqlite.specs.Held.{state};
 ghost use Rattle.sqlite.specs.State.{HasCleanDisk, Survives};
-ghost use Rattle.typed_sql.specs.Reading.{IsInside, StaysInside};
+ghost use Rattle.typed_sql.specs.Reading.{StaysInside};
 ghost use Rattle.td_migrate.specs.Grown.{GrowsFrom, MayLeaveGrown};
 ghost use Rattle.td_store_check.specs.Opened.{IsEarlier};
 ghost use Rattle.td_migrate.specs.Moved.{BecomesSecond, MovesTo2};
@@ -18,7 +18,6 @@ use td_store_rows::{empty_guarantees1, set_version};
 // Makes the table of guarantees of version 2, puts all guarantees into it, each with the amount in use on it, and empties the one of
 // version 1.
 fn move_guarantees<S: Alter>(alloc: Global, tx: &mut Transaction<'_, S>) -> Result<(), Error>
-    requires { IsInside (state S.Store tx.old.conn.now) }
     ensures same_reference { tx.new.conn.ghost_name ≡ tx.old.conn.ghost_name }
     ensures moved { HasCleanDisk (state S.Store tx.new.conn.now)
         → OnOk result (MovesTo2 (state S.Store tx.old.conn.now) (state S.Store tx.new.conn.now)) }
@@ -31,7 +30,6 @@ fn move_guarantees<S: Alter>(alloc: Global, tx: &mut Transaction<'_, S>) -> Resu
 
 // Writes what version 2 has that version 1 has not.
 fn write_2<S: Alter>(alloc: Global, tx: &mut Transaction<'_, S>) -> Result<(), Error>
-    requires { IsInside (state S.Store tx.old.conn.now) }
     ensures same_reference { tx.new.conn.ghost_name ≡ tx.old.conn.ghost_name }
     ensures written { HasCleanDisk (state S.Store tx.new.conn.now)
         → OnOk result (BecomesSecond (state S.Store tx.old.conn.now) (state S.Store tx.new.conn.now)) }
@@ -48,7 +46,6 @@ fn write_next<S: Alter>(
     tx: &mut Transaction<'_, S>,
     version: u32,
 ) -> Result<(), Error>
-    requires inside { IsInside (state S.Store tx.old.conn.now) }
     requires earlier { IsEarlier version }
     ensures same_reference { tx.new.conn.ghost_name ≡ tx.old.conn.ghost_name }
     ensures written { HasCleanDisk (state S.Store tx.new.conn.now)

@@ -2,7 +2,7 @@
 ghost use Rattle.std.specs.Prelude.{◌≡◌, map, IfOk, OnOk, is_ok};
 ghost use Rattle.sqlite.specs.Held.{state};
 ghost use Rattle.sqlite.specs.State.{HasCleanDisk};
-ghost use Rattle.typed_sql.specs.Reading.{IsInside, StaysInside};
+ghost use Rattle.typed_sql.specs.Reading.{StaysInside};
 ghost use Rattle.td_table_model.specs.Tables.{version_with_amounts};
 ghost use Rattle.td_store_rows.specs.LineTable.{line_row_of};
 ghost use Rattle.td_store_rows.specs.StoreReads.{IsOfVersion, ReadsIn};
@@ -33,7 +33,6 @@ fn older_within<S: Alter>(
     first: u32,
     end: u32,
 ) -> Result<Vec<StoredLine>, Error>
-    requires { IsInside (state S.Store tx.old.conn.now) }
     ensures same_reference { tx.new.conn.ghost_name ≡ tx.old.conn.ghost_name }
     ensures found { HasCleanDisk (state S.Store tx.new.conn.now)
         → IfOk result (λ found. AreOlderLines holder first end (state S.Store tx.old.conn.now) (map line_row_of found.items)) }
@@ -45,7 +44,6 @@ fn older_within<S: Alter>(
 
 // Puts lines into the table of version 3. An error is the database's own.
 fn put_lines<S: Alter>(tx: &mut Transaction<'_, S>, lines: &[StoredLine]) -> Result<(), Error>
-    requires { IsInside (state S.Store tx.old.conn.now) }
     ensures same_reference { tx.new.conn.ghost_name ≡ tx.old.conn.ghost_name }
     ensures put { HasCleanDisk (state S.Store tx.new.conn.now) → OnOk result (PutsLines IsAnyFile (λ l trees. map line_row_of lines.now)
         (state S.Store tx.old.conn.now) (state S.Store tx.new.conn.now)) }
@@ -64,7 +62,6 @@ fn put_below<S: Alter>(
     holder: HolderNo,
     end: u32,
 ) -> Result<(), Error>
-    requires { IsInside (state S.Store tx.old.conn.now) }
     ensures same_reference { tx.new.conn.ghost_name ≡ tx.old.conn.ghost_name }
     ensures put { HasCleanDisk (state S.Store tx.new.conn.now)
         → OnOk result (PutsLinesWithin holder end (state S.Store tx.old.conn.now) (state S.Store tx.new.conn.now)) }
@@ -82,7 +79,6 @@ fn put_below<S: Alter>(
 
 // Puts all lines, in a file whose rows keep the rules, into the table of version 3.
 fn put_all<S: Alter>(alloc: Global, tx: &mut Transaction<'_, S>) -> Result<(), Error>
-    requires { IsInside (state S.Store tx.old.conn.now) }
     ensures same_reference { tx.new.conn.ghost_name ≡ tx.old.conn.ghost_name }
     ensures put { HasCleanDisk (state S.Store tx.new.conn.now)
         → OnOk result (PutsAllLines (state S.Store tx.old.conn.now) (state S.Store tx.new.conn.now)) }
@@ -99,7 +95,6 @@ fn put_all<S: Alter>(alloc: Global, tx: &mut Transaction<'_, S>) -> Result<(), E
 
 // Makes the table of lines of version 3, puts all lines into it, and empties the one that they were in.
 fn move_lines<S: Alter>(alloc: Global, tx: &mut Transaction<'_, S>) -> Result<(), Error>
-    requires { IsInside (state S.Store tx.old.conn.now) }
     ensures same_reference { tx.new.conn.ghost_name ≡ tx.old.conn.ghost_name }
     ensures moved { HasCleanDisk (state S.Store tx.new.conn.now)
         → OnOk result (MovesLines (state S.Store tx.old.conn.now) (state S.Store tx.new.conn.now)) }
@@ -114,7 +109,6 @@ fn move_lines<S: Alter>(alloc: Global, tx: &mut Transaction<'_, S>) -> Result<()
 /// the table that they were in has no row, and the office's own row says version 3. `DatabaseCorrupt`: a row is no holder's or no
 /// line's; `OutOfMemory`: want of memory; any other error is the database's own.
 pub(crate) fn write_3<S: Alter>(alloc: Global, tx: &mut Transaction<'_, S>) -> Result<(), Error>
-    requires { IsInside (state S.Store tx.old.conn.now) }
     ensures same_reference { tx.new.conn.ghost_name ≡ tx.old.conn.ghost_name }
     ensures written { HasCleanDisk (state S.Store tx.new.conn.now)
         → OnOk result (BecomesThird (state S.Store tx.old.conn.now) (state S.Store tx.new.conn.now)) }

@@ -5,7 +5,7 @@ ghost use Rattle.sqlite.specs.State.{HasCleanDisk};
 ghost use Rattle.sqlite_catalog.specs.Change.{created};
 ghost use Rattle.sqlite_schema.specs.declared.schema.Schema.{Schema};
 ghost use Rattle.sqlite_schema.specs.declared.schema.Table.{Table};
-ghost use Rattle.typed_sql.specs.Reading.{IsInside, StaysInside};
+ghost use Rattle.typed_sql.specs.Reading.{StaysInside};
 ghost use Rattle.typed_sql.specs.Writing.{HasSchema};
 ghost use Rattle.td_schema.specs.Tables.{no_schema, guarantees2, lines3, IsEmptyOf};
 ghost use Rattle.td_schema.specs.Layouts.{base_schema, grown, schema_of, version_of};
@@ -28,7 +28,6 @@ pub fn is_blank<S: Alter>(conn: &Connection<S>) -> bool
 
 // Makes a table beside those that there are, inside a transaction.
 fn make<S: Alter>(tx: &mut Transaction<'_, S>, text: &str) -> Result<(), Error>
-    requires { IsInside (state S.Store tx.old.conn.now) }
     ensures same_reference { tx.new.conn.ghost_name ≡ tx.old.conn.ghost_name }
     ensures made { HasCleanDisk (state S.Store tx.new.conn.now)
         → OnOk result ((s : Schema) (t : Table) → MakesOne s text.now t → HasSchema (state S.Store tx.old.conn.now) s
@@ -41,7 +40,6 @@ fn make<S: Alter>(tx: &mut Transaction<'_, S>, text: &str) -> Result<(), Error>
 
 // Makes the tables that no version changes, where there is none.
 fn make_base<S: Alter>(tx: &mut Transaction<'_, S>) -> Result<(), Error>
-    requires { IsInside (state S.Store tx.old.conn.now) }
     ensures same_reference { tx.new.conn.ghost_name ≡ tx.old.conn.ghost_name }
     ensures made { HasCleanDisk (state S.Store tx.new.conn.now)
         → OnOk result (IsEmptyOf no_schema (state S.Store tx.old.conn.now).now → IsEmptyOf base_schema (state S.Store tx.new.conn.now).now) }
@@ -55,7 +53,6 @@ fn make_base<S: Alter>(tx: &mut Transaction<'_, S>) -> Result<(), Error>
 
 // Makes two tables, one after the other, where no table has a row.
 fn make_two<S: Alter>(tx: &mut Transaction<'_, S>, first: &str, second: &str) -> Result<(), Error>
-    requires { IsInside (state S.Store tx.old.conn.now) }
     ensures same_reference { tx.new.conn.ghost_name ≡ tx.old.conn.ghost_name }
     ensures made { HasCleanDisk (state S.Store tx.new.conn.now)
         → OnOk result ((s : Schema) (t u : Table) → MakesOne s first.now t → MakesOne (created s t) second.now u
@@ -68,7 +65,6 @@ fn make_two<S: Alter>(tx: &mut Transaction<'_, S>, first: &str, second: &str) ->
 
 // Makes the tables of a layout behind those that no version changes.
 fn make_rest<S: Alter>(tx: &mut Transaction<'_, S>, layout: Layout) -> Result<(), Error>
-    requires { IsInside (state S.Store tx.old.conn.now) }
     ensures same_reference { tx.new.conn.ghost_name ≡ tx.old.conn.ghost_name }
     ensures made { HasCleanDisk (state S.Store tx.new.conn.now)
         → OnOk result (IsEmptyOf base_schema (state S.Store tx.old.conn.now).now → IsEmptyOf (schema_of layout) (state S.Store tx.new.conn.now).now) }
@@ -96,7 +92,6 @@ fn make_rest<S: Alter>(tx: &mut Transaction<'_, S>, layout: Layout) -> Result<()
 /// Makes the tables of a layout where there is none, inside a transaction that the caller commits: none has a row then. An
 /// error is the database's own, and commits nothing.
 pub fn make_tables<S: Alter>(tx: &mut Transaction<'_, S>, layout: Layout) -> Result<(), Error>
-    requires { IsInside (state S.Store tx.old.conn.now) }
     ensures same_reference { tx.new.conn.ghost_name ≡ tx.old.conn.ghost_name }
     ensures made { HasCleanDisk (state S.Store tx.new.conn.now)
         → OnOk result (IsEmptyOf no_schema (state S.Store tx.old.conn.now).now → IsEmptyOf (schema_of layout) (state S.Store tx.new.conn.now).now) }
@@ -110,7 +105,6 @@ pub fn make_tables<S: Alter>(tx: &mut Transaction<'_, S>, layout: Layout) -> Res
 /// caller commits: the table has no row then, the others are as they were, and the tables are those of
 /// `Layout::Grown2`. An error is the database's own, and commits nothing.
 pub fn make_guarantees2<S: Alter>(tx: &mut Transaction<'_, S>) -> Result<(), Error>
-    requires { IsInside (state S.Store tx.old.conn.now) }
     ensures same_reference { tx.new.conn.ghost_name ≡ tx.old.conn.ghost_name }
     ensures made { HasCleanDisk (state S.Store tx.new.conn.now)
         → OnOk result (HasSchema (state S.Store tx.old.conn.now) (schema_of variant.Made1)
@@ -127,7 +121,6 @@ pub fn make_guarantees2<S: Alter>(tx: &mut Transaction<'_, S>) -> Result<(), Err
 /// caller commits: the table has no row then, the others are as they were, and the tables are those of the layout that
 /// the file's own grows to. An error is the database's own, and commits nothing.
 pub fn make_lines3<S: Alter>(tx: &mut Transaction<'_, S>) -> Result<(), Error>
-    requires { IsInside (state S.Store tx.old.conn.now) }
     ensures same_reference { tx.new.conn.ghost_name ≡ tx.old.conn.ghost_name }
     ensures made { HasCleanDisk (state S.Store tx.new.conn.now)
         → OnOk result ((l : Layout) → version_of l ≡ 2 → HasSchema (state S.Store tx.old.conn.now) (schema_of l)

@@ -1,10 +1,9 @@
 -- What was told of a store's file is so before the calls that told it, since they only read.
 use Rattle.std.proofs.Common.{◌≤◌, ℕ, Err, Ok, OnOk, Result, refl, subst, sym}
-use Rattle.std.specs.Prelude.{Bool, is_ok, IsTrue, true}
+use Rattle.std.specs.Prelude.{Bool, is_ok, true}
 use Rattle.sqlite_trees.specs.Tree.{Trees}
 use Rattle.sqlite.specs.Effect.{Database}
 use Rattle.sqlite.specs.State.{State, HasCleanDisk}
-use Rattle.typed_sql.specs.Reading.{IsInside, StaysInside}
 use Rattle.typed_sql.proofs.OnlyRead.{none_read, read_more, stays_nothing, still_has}
 use Rattle.td_table_model.specs.Tables.{version_with_amounts}
 use Rattle.td_schema.specs.declared.layout.Layout.{Layout}
@@ -25,8 +24,8 @@ none_read_in At a layout own = none_read a
 pub more_read : (At : Layout → Type 0) (a b d : State) → OnlyReadIn At a b → OnlyReadIn At b d → OnlyReadIn At a d
 more_read At a b d first second layout own = read_more a b d (first layout own) (second layout own)
 
-pub reads_none : {At : Layout → Type 0} {w : Bool} {a : State} → IsInside a → ReadsIn At w a a
-reads_none {At} {w} {a} inside = record { still = λ clean well layout own. none_read a; within = stays_nothing inside }
+pub reads_none : {At : Layout → Type 0} {w : Bool} {a : State} → ReadsIn At w a a
+reads_none {At} {w} {a} = record { still = λ clean well layout own. none_read a; within = stays_nothing }
 
 -- what only reads in a file of any layout
 pub any_read : (At : Layout → Type 0) {a b : State} → HasCleanDisk b → ReadsStore true a b → OnlyReadIn At a b
@@ -48,8 +47,3 @@ pub still_ok : {At : Layout → Type 0} {T E : Type 0} {a b : State} (r : Result
     → OnOk r (OnlyReadIn At a b)
 still_ok (Ok x) reads clean = reads.still clean refl
 still_ok (Err e) reads clean = tt
-
-pub inside_ok : {T E : Type 0} {a b : State} (r : Result T E) → StaysInside (is_ok r) a b → HasCleanDisk b
-    → OnOk r (IsTrue b.in_transaction)
-inside_ok (Ok x) within clean = within.inside clean refl
-inside_ok (Err e) within clean = tt

@@ -7,7 +7,6 @@ ghost use Rattle.td_store_rows.specs.StoreReads.{KeepsUse, ReadsKept};
 ghost use Rattle.td_store_audit.specs.Tallies.{IsHandedOn, IsKeptBy, raw_holder_of};
 ghost use Rattle.td_store_audit.specs.Totals.{AreTotals};
 ghost use Rattle.td_store_audit.specs.InFile.{IsHolderKeptInFile, TellsWhere};
-ghost use Rattle.typed_sql.specs.Reading.{IsInside};
 
 use crate::tallies::HolderTotals;
 use sqlite::{Error, Transaction};
@@ -23,7 +22,6 @@ pub fn is_holder_kept<S: Alter>(
     tx: &mut Transaction<'_, S>,
     parts: &HolderTotals,
 ) -> Result<bool, Error>
-    requires { IsInside (state S.Store tx.old.conn.now) }
     ensures same_reference { tx.new.conn.ghost_name ≡ tx.old.conn.ghost_name }
     ensures told { HasCleanDisk (state S.Store tx.new.conn.now)
         → IfOk result (TellsWhere KeepsUse (λ layout trees. IsHandedOn layout trees parts.now)

@@ -2,7 +2,6 @@
 ghost use Rattle.std.specs.Prelude.{◌≡◌, IfOk, is_ok};
 ghost use Rattle.sqlite.specs.Held.{state};
 ghost use Rattle.sqlite.specs.State.{HasCleanDisk};
-ghost use Rattle.typed_sql.specs.Reading.{IsInside};
 ghost use Rattle.typed_sql.specs.Typed.{AreTyped};
 ghost use Rattle.td_store_rows.specs.StoreReads.{IsAny, ReadsStore};
 ghost use Rattle.td_store_audit.specs.InFile.{TellsWhere};
@@ -27,7 +26,6 @@ pub fn has_codes<S: Alter>(
     tx: &mut Transaction<'_, S>,
     raw: &RawHolder,
 ) -> Result<bool, Error>
-    requires { IsInside (state S.Store tx.old.conn.now) }
     ensures same_reference { tx.new.conn.ghost_name ≡ tx.old.conn.ghost_name }
     ensures told { HasCleanDisk (state S.Store tx.new.conn.now)
         → IfOk result (TellsWhere IsAny (λ layout. AreTyped code_typing) (λ layout trees. HasCodesInPlace trees raw.now)
@@ -53,7 +51,6 @@ fn has_codes_below<S: Alter>(
     holder: HolderNo,
     end: u32,
 ) -> Result<bool, Error>
-    requires { IsInside (state S.Store tx.old.conn.now) }
     ensures same_reference { tx.new.conn.ghost_name ≡ tx.old.conn.ghost_name }
     ensures told { HasCleanDisk (state S.Store tx.new.conn.now)
         → IfOk result (TellsCodesWithin holder 0 end (state S.Store tx.old.conn.now)) }

@@ -7,7 +7,6 @@ ghost use Rattle.td_store_rows.specs.StoreReads.{IsOfVersion, ReadsVersion};
 ghost use Rattle.td_store_audit.specs.Tallies.{IsCoveredBy, IsHandedOn, raw_holder_of};
 ghost use Rattle.td_store_audit.specs.Totals.{AreTotals};
 ghost use Rattle.td_store_audit.specs.InFile.{IsHolderCoveredInFile, TellsWhere};
-ghost use Rattle.typed_sql.specs.Reading.{IsInside};
 
 use crate::tallies::HolderTotals;
 use sqlite::{Error, Transaction};
@@ -24,7 +23,6 @@ pub fn is_holder_covered<S: Alter>(
     version: u32,
     parts: &HolderTotals,
 ) -> Result<bool, Error>
-    requires { IsInside (state S.Store tx.old.conn.now) }
     ensures same_reference { tx.new.conn.ghost_name ≡ tx.old.conn.ghost_name }
     ensures told { HasCleanDisk (state S.Store tx.new.conn.now)
         → IfOk result (TellsWhere (IsOfVersion version) (λ layout trees. IsHandedOn layout trees parts.now)

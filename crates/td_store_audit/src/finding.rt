@@ -3,7 +3,6 @@
 ghost use Rattle.std.specs.Prelude.{◌≡◌, IfOk, is_ok};
 ghost use Rattle.sqlite.specs.Held.{state};
 ghost use Rattle.sqlite.specs.State.{HasCleanDisk};
-ghost use Rattle.typed_sql.specs.Reading.{IsInside};
 ghost use Rattle.td_store_rows.specs.StoreReads.{ReadsStore, ReadsVersion};
 ghost use Rattle.td_store_rows.specs.CodeTable.{AreCodes};
 ghost use Rattle.td_store_rows.specs.Places.{is_within};
@@ -26,7 +25,6 @@ pub fn codes_within<S: Alter>(
     first: u32,
     end: u32,
 ) -> Result<Vec<StoredCode>, Error>
-    requires { IsInside (state S.Store tx.old.conn.now) }
     ensures same_reference { tx.new.conn.ghost_name ≡ tx.old.conn.ghost_name }
     ensures found { HasCleanDisk (state S.Store tx.new.conn.now)
         → IfOk result (λ found. AreCodes (is_within holder first end) (state S.Store tx.old.conn.now) found.items) }
@@ -44,7 +42,6 @@ pub fn has_code_behind<S: Alter>(
     holder: HolderNo,
     serial: u32,
 ) -> Result<bool, Error>
-    requires { IsInside (state S.Store tx.old.conn.now) }
     ensures same_reference { tx.new.conn.ghost_name ≡ tx.old.conn.ghost_name }
     ensures told { HasCleanDisk (state S.Store tx.new.conn.now)
         → IfOk result (TellsCodeBehind holder serial (state S.Store tx.old.conn.now)) }
@@ -69,7 +66,6 @@ pub fn lines_within<S: Alter>(
     first: u32,
     end: u32,
 ) -> Result<Vec<StoredLine>, Error>
-    requires { IsInside (state S.Store tx.old.conn.now) }
     ensures same_reference { tx.new.conn.ghost_name ≡ tx.old.conn.ghost_name }
     ensures found { HasCleanDisk (state S.Store tx.new.conn.now)
         → IfOk result (λ found. AreLinesWithin version holder first end (state S.Store tx.old.conn.now) found.items) }
@@ -93,7 +89,6 @@ pub fn has_line_behind<S: Alter>(
     holder: HolderNo,
     serial: u32,
 ) -> Result<bool, Error>
-    requires { IsInside (state S.Store tx.old.conn.now) }
     ensures same_reference { tx.new.conn.ghost_name ≡ tx.old.conn.ghost_name }
     ensures told { HasCleanDisk (state S.Store tx.new.conn.now)
         → IfOk result (TellsBehind version holder serial (state S.Store tx.old.conn.now)) }

@@ -7,7 +7,6 @@ ghost use Rattle.td_store_rows.specs.StoreReads.{IsOfVersion, ReadsVersion};
 ghost use Rattle.td_store_audit_rows.specs.InPlace.{AreGuaranteesInPlace};
 ghost use Rattle.td_store_audit.specs.Ranges.{guarantees_below};
 ghost use Rattle.td_store_audit.specs.InFile.{AreTypedApart, HasGuaranteesInPlace, TellsWhere};
-ghost use Rattle.typed_sql.specs.Reading.{IsInside};
 
 use sqlite::{Error, Transaction};
 use sqlite_trees::store::Alter;
@@ -25,7 +24,6 @@ pub fn has_guarantees<S: Alter>(
     country: Country,
     raw: &RawHolder,
 ) -> Result<bool, Error>
-    requires { IsInside (state S.Store tx.old.conn.now) }
     ensures same_reference { tx.new.conn.ghost_name ≡ tx.old.conn.ghost_name }
     ensures told { HasCleanDisk (state S.Store tx.new.conn.now)
         → IfOk result (TellsWhere (IsOfVersion version) (λ layout. AreTypedApart (guarantee_typing layout))
@@ -53,7 +51,6 @@ fn has_guarantees_below<S: Alter>(
     holder: HolderNo,
     end: u32,
 ) -> Result<bool, Error>
-    requires { IsInside (state S.Store tx.old.conn.now) }
     ensures same_reference { tx.new.conn.ghost_name ≡ tx.old.conn.ghost_name }
     ensures told { HasCleanDisk (state S.Store tx.new.conn.now)
         → IfOk result (TellsWhere (IsOfVersion version) (λ layout. AreTypedApart (guarantee_typing layout))

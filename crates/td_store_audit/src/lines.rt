@@ -2,7 +2,6 @@
 ghost use Rattle.std.specs.Prelude.{◌≡◌, ◌↔◌, is_some, IsTrue, IfOk, IfSome, is_ok};
 ghost use Rattle.sqlite.specs.Held.{state};
 ghost use Rattle.sqlite.specs.State.{HasCleanDisk};
-ghost use Rattle.typed_sql.specs.Reading.{IsInside};
 ghost use Rattle.typed_sql.specs.Typed.{AreTyped, typed_rows};
 ghost use Rattle.td_store_rows.specs.StoreReads.{IsOfVersion, ReadsVersion};
 ghost use Rattle.td_store_audit.specs.InFile.{IsSoWhere};
@@ -34,7 +33,6 @@ fn kept_lines_within<S: Alter>(
     first: u32,
     end: u32,
 ) -> Result<Option<Vec<StoredLine>>, Error>
-    requires { IsInside (state S.Store tx.old.conn.now) }
     ensures same_reference { tx.new.conn.ghost_name ≡ tx.old.conn.ghost_name }
     ensures told { HasCleanDisk (state S.Store tx.new.conn.now)
         → IfOk result (λ found. TellsWithin version guarantees holder first end (state S.Store tx.old.conn.now) (is_some found)) }
@@ -59,7 +57,6 @@ fn totals_below<S: Alter>(
     guarantees: u32,
     end: u32,
 ) -> Result<Option<Totals>, Error>
-    requires { IsInside (state S.Store tx.old.conn.now) }
     ensures same_reference { tx.new.conn.ghost_name ≡ tx.old.conn.ghost_name }
     ensures told { HasCleanDisk (state S.Store tx.new.conn.now)
         → IfOk result (λ found. TellsWithin version guarantees movements.now.raw.holder 0 end (state S.Store tx.old.conn.now) (is_some found)) }
@@ -93,7 +90,6 @@ pub fn kept_lines<S: Alter>(
     version: u32,
     movements: &CountingSerials,
 ) -> Result<Option<Totals>, Error>
-    requires { IsInside (state S.Store tx.old.conn.now) }
     ensures same_reference { tx.new.conn.ghost_name ≡ tx.old.conn.ghost_name }
     ensures told { HasCleanDisk (state S.Store tx.new.conn.now)
         → IfOk result (λ found. IsSoWhere (IsOfVersion version) (λ layout. AreTyped (line_typing layout))

@@ -11,7 +11,6 @@ ghost use Rattle.td_store_audit_rows.specs.InPlace.{AreMovementsInPlace};
 ghost use Rattle.td_store_audit.specs.Ranges.{AreSerialsIn, movements_below};
 ghost use Rattle.td_store_audit.specs.Tallies.{AreCounting, is_counting_row, raw_of};
 ghost use Rattle.td_store_audit.specs.InFile.{AreTypedApart, HasMovementsInPlace, IsSoWhere, TellsWhere};
-ghost use Rattle.typed_sql.specs.Reading.{IsInside};
 
 use crate::tallies::CountingSerials;
 use sqlite::{Error, Transaction};
@@ -32,7 +31,6 @@ pub fn kept_movements<S: Alter>(
     country: Country,
     raw: &RawHolder,
 ) -> Result<Option<CountingSerials>, Error>
-    requires { IsInside (state S.Store tx.old.conn.now) }
     ensures same_reference { tx.new.conn.ghost_name ≡ tx.old.conn.ghost_name }
     ensures told { HasCleanDisk (state S.Store tx.new.conn.now)
         → IfOk result (λ found. TellsWhere IsAny (λ layout. AreTypedApart movement_typing)
@@ -67,7 +65,6 @@ fn counting_below<S: Alter>(
     holder: HolderNo,
     end: u32,
 ) -> Result<Option<Vec<MovementSerial>>, Error>
-    requires { IsInside (state S.Store tx.old.conn.now) }
     ensures same_reference { tx.new.conn.ghost_name ≡ tx.old.conn.ghost_name }
     ensures told { HasCleanDisk (state S.Store tx.new.conn.now)
         → IfOk result (λ found. TellsWhere IsAny (λ layout. AreTypedApart movement_typing)

@@ -2,7 +2,6 @@
 ghost use Rattle.std.specs.Prelude.{◌≡◌, [], ◌∷◌, IsTrue, IfOk, OnOk, is_ok};
 ghost use Rattle.sqlite.specs.Held.{state};
 ghost use Rattle.sqlite.specs.State.{HasCleanDisk};
-ghost use Rattle.typed_sql.specs.Reading.{IsInside};
 ghost use Rattle.td_store_rows.specs.StoreReads.{ReadsStore};
 ghost use Rattle.td_store_audit.specs.Broken.{IsOpenStore, ShowsCountry, TellsCountryIn};
 
@@ -16,7 +15,6 @@ use typed_sql::{integer_at, select, text_at};
 /// `DatabaseCorrupt`: there are several rows, or the version is no integer or the country no text; any other error is the
 /// database's own. It changes nothing.
 pub fn office_country<S: Alter>(tx: &mut Transaction<'_, S>) -> Result<Option<Country>, Error>
-    requires { IsInside (state S.Store tx.old.conn.now) }
     ensures same_reference { tx.new.conn.ghost_name ≡ tx.old.conn.ghost_name }
     ensures told { HasCleanDisk (state S.Store tx.new.conn.now)
         → IfOk result (TellsCountryIn (state S.Store tx.old.conn.now)) }

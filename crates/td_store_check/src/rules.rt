@@ -1,10 +1,10 @@
 //! The first rule of sound tables that a store's file breaks: a table is scanned whole first, and then the holders are asked one
 //! after another, so that no more than one holder's rows are kept.
-ghost use Rattle.std.specs.Prelude.{◌≡◌, ℕ, List, IsTrue, IfOk, OnOk, is_ok};
+ghost use Rattle.std.specs.Prelude.{◌≡◌, ℕ, List, IfOk, OnOk, is_ok};
 ghost use Rattle.sqlite.specs.Held.{state};
-ghost use Rattle.sqlite.specs.State.{HasCleanDisk, KeepsCommit, Survives};
+ghost use Rattle.sqlite.specs.State.{HasCleanDisk};
+ghost use Rattle.typed_sql.specs.Reading.{StaysInside};
 ghost use Rattle.td_table_model.specs.declared.rule.Rule.TheVariants.{S5};
-ghost use Rattle.typed_sql.specs.Reading.{IsInside};
 ghost use Rattle.td_store_rows.specs.StoreReads.{IsOfVersion, KeepsUse, LeavesVersion, ReadsVersion};
 ghost use Rattle.td_store_audit_rows.specs.Laws.{AreKept};
 ghost use Rattle.td_store_audit_rows.specs.Scans.{TellReadable};
@@ -36,17 +36,13 @@ pub(crate) fn first_broken<S: Alter>(
     version: u32,
     readable: Readable,
 ) -> Result<Option<Rule>, Error>
-    requires { HasCleanDisk (state S.Store tx.old.conn.now) → IsTrue (state S.Store tx.old.conn.now).in_transaction }
     ensures same_reference { tx.new.conn.ghost_name ≡ tx.old.conn.ghost_name }
     ensures told { HasCleanDisk (state S.Store tx.new.conn.now)
         → IfOk result (λ broken. IsSoWhere (IsOfVersion version) AreKept
         (λ layout trees. TellReadable layout readable trees → TellsBroken layout trees broken) (state S.Store tx.old.conn.now)) }
     ensures still { HasCleanDisk (state S.Store tx.new.conn.now)
         → OnOk result (LeavesVersion version (state S.Store tx.old.conn.now) (state S.Store tx.new.conn.now)) }
-    ensures inside { HasCleanDisk (state S.Store tx.new.conn.now) → OnOk result (IsTrue (state S.Store tx.new.conn.now).in_transaction) }
-    ensures kept { HasCleanDisk (state S.Store tx.new.conn.now)
-        → KeepsCommit (state S.Store tx.old.conn.now) (state S.Store tx.new.conn.now) }
-    ensures survives { Survives (state S.Store tx.old.conn.now) (state S.Store tx.new.conn.now) (λ _. ⊥) }
+    ensures within { StaysInside (is_ok result) (state S.Store tx.old.conn.now) (state S.Store tx.new.conn.now) }
 {
     let Some(country) = office_country(tx)? else {
         return Ok(Some(Rule::S1));
@@ -63,7 +59,6 @@ fn first_after_office<S: Alter>(
     country: Country,
     readable: Readable,
 ) -> Result<Option<Rule>, Error>
-    requires { IsInside (state S.Store tx.old.conn.now) }
     ensures same_reference { tx.new.conn.ghost_name ≡ tx.old.conn.ghost_name }
     ensures told { HasCleanDisk (state S.Store tx.new.conn.now)
         → IfOk result (λ broken. IsSoWhere (IsOfVersion version) (HasOffice country readable)
@@ -88,7 +83,6 @@ fn first_of_holder<S: Alter>(
     raw: &RawHolder,
     end: Option<Rule>,
 ) -> Result<Option<Rule>, Error>
-    requires { IsInside (state S.Store tx.old.conn.now) }
     ensures same_reference { tx.new.conn.ghost_name ≡ tx.old.conn.ghost_name }
     ensures told { HasCleanDisk (state S.Store tx.new.conn.now)
         → IfOk result (λ first. IsSoWhere (IsOfVersion version) (IsAskable end)
@@ -125,7 +119,6 @@ fn first_of_movements<S: Alter>(
     raw: &RawHolder,
     end: Option<Rule>,
 ) -> Result<Option<Rule>, Error>
-    requires { IsInside (state S.Store tx.old.conn.now) }
     ensures same_reference { tx.new.conn.ghost_name ≡ tx.old.conn.ghost_name }
     ensures told { HasCleanDisk (state S.Store tx.new.conn.now)
         → IfOk result (λ first. IsSoWhere (IsOfVersion version) (IsAskableFrom S5 end country raw.now)
@@ -157,7 +150,6 @@ fn first_of_use<S: Alter>(
     parts: &HolderTotals,
     end: Option<Rule>,
 ) -> Result<Option<Rule>, Error>
-    requires { IsInside (state S.Store tx.old.conn.now) }
     ensures same_reference { tx.new.conn.ghost_name ≡ tx.old.conn.ghost_name }
     ensures told { HasCleanDisk (state S.Store tx.new.conn.now)
         → IfOk result (λ first. (country : List ℕ) → IsSoWhere (IsOfVersion version) (IsUseAskable country parts.now)
@@ -190,7 +182,6 @@ fn keeps_amounts<S: Alter>(
     version: u32,
     parts: &HolderTotals,
 ) -> Result<bool, Error>
-    requires { IsInside (state S.Store tx.old.conn.now) }
     ensures same_reference { tx.new.conn.ghost_name ≡ tx.old.conn.ghost_name }
     ensures told { HasCleanDisk (state S.Store tx.new.conn.now)
         → IfOk result (TellsWhere (IsOfVersion version) (λ layout trees. IsHandedOn layout trees parts.now)

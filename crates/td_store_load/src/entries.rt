@@ -7,7 +7,6 @@ ghost use Rattle.sqlite.specs.State.{HasCleanDisk};
 ghost use Rattle.td_guarantee.specs.Codes.{AreAscending};
 ghost use Rattle.td_model.specs.Account.{entry_in};
 ghost use Rattle.td_model.specs.Content.{account_in};
-ghost use Rattle.typed_sql.specs.Reading.{IsInside};
 ghost use Rattle.td_store_rows.specs.StoreReads.{ReadsNewest};
 ghost use Rattle.td_store_rows.specs.KeptTable.{kept_row_of};
 ghost use Rattle.td_store_load.specs.Loaded.{IsOfContent, IsOfTables, code_of};
@@ -38,7 +37,6 @@ pub fn entry_in_row<S: Alter>(
     tx: &mut Transaction<'_, S>,
     row: &KeptGuarantee,
 ) -> Result<(Guarantee, Cents), Error>
-    requires { IsInside (state S.Store tx.old.conn.now) }
     ensures same_reference { tx.new.conn.ghost_name ≡ tx.old.conn.ghost_name }
     ensures entry { HasCleanDisk (state S.Store tx.new.conn.now)
         → IfOk result (IsOfTables (λ t. entry_from t (kept_row_of row.now)) (state S.Store tx.old.conn.now)) }
@@ -58,7 +56,6 @@ pub fn load_entry<S: Alter>(
     holder: HolderNo,
     grn: &Grn,
 ) -> Result<Option<(Guarantee, Cents)>, Error>
-    requires { IsInside (state S.Store tx.old.conn.now) }
     ensures same_reference { tx.new.conn.ghost_name ≡ tx.old.conn.ghost_name }
     ensures found { HasCleanDisk (state S.Store tx.new.conn.now)
         → IfOk result (IsOfContent country (λ c. entry_in (account_in holder c) grn.now) (state S.Store tx.old.conn.now)) }
@@ -80,7 +77,6 @@ pub fn load_declared_on<S: Alter>(
     holder: HolderNo,
     lines: &Lines,
 ) -> Result<Vec<(Guarantee, Cents)>, Error>
-    requires { IsInside (state S.Store tx.old.conn.now) }
     ensures same_reference { tx.new.conn.ghost_name ≡ tx.old.conn.ghost_name }
     ensures found { HasCleanDisk (state S.Store tx.new.conn.now)
         → IfOk result (λ found. IsOfContent country (λ c. filter_map (λ l. entry_in (account_in holder c) l.0.grn) lines.now)

@@ -5,7 +5,6 @@ ghost use Rattle.std.specs.Prelude.{◌≡◌, IfOk, is_ok};
 ghost use Rattle.std.specs.Option.{option_map};
 ghost use Rattle.sqlite.specs.Held.{state};
 ghost use Rattle.sqlite.specs.State.{HasCleanDisk};
-ghost use Rattle.typed_sql.specs.Reading.{IsInside};
 ghost use Rattle.td_store_rows.specs.StoreReads.{ReadsNewest};
 ghost use Rattle.td_store_rows.specs.KeptTable.{kept_row_of};
 ghost use Rattle.td_store_rows.specs.MovementTable.{movement_row_of};
@@ -31,7 +30,6 @@ fn next_movement<S: Alter>(
     holder: u32,
     serial: u32,
 ) -> Result<Option<StoredMovement>, Error>
-    requires { IsInside (state S.Store tx.old.conn.now) }
     ensures same_reference { tx.new.conn.ghost_name ≡ tx.old.conn.ghost_name }
     ensures first { HasCleanDisk (state S.Store tx.new.conn.now)
         → IfOk result (λ found. IsFirstBehind movement_rows holder serial (state S.Store tx.old.conn.now) (option_map movement_row_of found)) }
@@ -51,7 +49,6 @@ pub fn following_movement<S: Alter>(
     holder: u32,
     serial: u32,
 ) -> Result<Option<(HolderNo, u32, Movement)>, Error>
-    requires { IsInside (state S.Store tx.old.conn.now) }
     ensures same_reference { tx.new.conn.ghost_name ≡ tx.old.conn.ghost_name }
     ensures found { HasCleanDisk (state S.Store tx.new.conn.now)
         → IfOk result (λ found. IsFirstBehind movements_placed holder serial (state S.Store tx.old.conn.now)
@@ -73,7 +70,6 @@ fn next_kept<S: Alter>(
     holder: u32,
     serial: u32,
 ) -> Result<Option<KeptGuarantee>, Error>
-    requires { IsInside (state S.Store tx.old.conn.now) }
     ensures same_reference { tx.new.conn.ghost_name ≡ tx.old.conn.ghost_name }
     ensures first { HasCleanDisk (state S.Store tx.new.conn.now)
         → IfOk result (λ found. IsFirstBehind kept_rows holder serial (state S.Store tx.old.conn.now) (option_map kept_row_of found)) }
@@ -93,7 +89,6 @@ pub fn following_guarantee<S: Alter>(
     holder: u32,
     serial: u32,
 ) -> Result<Option<(HolderNo, u32, (Guarantee, Cents))>, Error>
-    requires { IsInside (state S.Store tx.old.conn.now) }
     ensures same_reference { tx.new.conn.ghost_name ≡ tx.old.conn.ghost_name }
     ensures found { HasCleanDisk (state S.Store tx.new.conn.now)
         → IfOk result (λ found. IsFirstBehind guarantees_placed holder serial (state S.Store tx.old.conn.now)

@@ -7,7 +7,6 @@ ghost use Rattle.sqlite.specs.State.{HasCleanDisk};
 ghost use Rattle.td_model.specs.Table.{listed};
 ghost use Rattle.td_model.specs.Content.{Content, account_in};
 ghost use Rattle.td_table_model.specs.Gathering.{movements_by};
-ghost use Rattle.typed_sql.specs.Reading.{IsInside};
 ghost use Rattle.td_store_rows.specs.KeptTable.{kept_row_of};
 ghost use Rattle.td_store_rows.specs.MovementTable.{shown_in_list, shown_of};
 ghost use Rattle.td_store_rows.specs.Ranges.{rows_below};
@@ -31,7 +30,6 @@ pub fn list_movements<S: Alter>(
     tx: &mut Transaction<'_, S>,
     row: &HolderRow,
 ) -> Result<Vec<ListedMovement>, Error>
-    requires { IsInside (state S.Store tx.old.conn.now) }
     ensures same_reference { tx.new.conn.ghost_name ≡ tx.old.conn.ghost_name }
     ensures found { HasCleanDisk (state S.Store tx.new.conn.now)
         → IfOk result (λ found. (c : Content) → HoldsContent c (state S.Store tx.old.conn.now)
@@ -52,7 +50,6 @@ fn movements_below<S: Alter>(
     holder: HolderNo,
     end: u32,
 ) -> Result<Vec<ListedMovement>, Error>
-    requires { IsInside (state S.Store tx.old.conn.now) }
     ensures same_reference { tx.new.conn.ghost_name ≡ tx.old.conn.ghost_name }
     ensures found { HasCleanDisk (state S.Store tx.new.conn.now)
         → IfOk result (λ found. IsOfTables (λ t. map shown_of (rows_below end (movements_by holder t)))
@@ -86,7 +83,6 @@ pub fn list_guarantees<S: Alter>(
     tx: &mut Transaction<'_, S>,
     row: &HolderRow,
 ) -> Result<Vec<(Guarantee, Cents)>, Error>
-    requires { IsInside (state S.Store tx.old.conn.now) }
     ensures same_reference { tx.new.conn.ghost_name ≡ tx.old.conn.ghost_name }
     ensures found { HasCleanDisk (state S.Store tx.new.conn.now)
         → IfOk result (λ found. (c : Content) → HoldsContent c (state S.Store tx.old.conn.now)
@@ -107,7 +103,6 @@ fn guarantees_below<S: Alter>(
     holder: HolderNo,
     end: u32,
 ) -> Result<Vec<(Guarantee, Cents)>, Error>
-    requires { IsInside (state S.Store tx.old.conn.now) }
     ensures same_reference { tx.new.conn.ghost_name ≡ tx.old.conn.ghost_name }
     ensures found { HasCleanDisk (state S.Store tx.new.conn.now)
         → IfOk result (λ found. IsOfTables (λ t. map (entry_from t) (rows_below end (kept_by holder t)))
@@ -132,7 +127,6 @@ fn entries_in_rows<S: Alter>(
     tx: &mut Transaction<'_, S>,
     rows: &[KeptGuarantee],
 ) -> Result<Vec<(Guarantee, Cents)>, Error>
-    requires { IsInside (state S.Store tx.old.conn.now) }
     ensures same_reference { tx.new.conn.ghost_name ≡ tx.old.conn.ghost_name }
     ensures entries { HasCleanDisk (state S.Store tx.new.conn.now)
         → IfOk result (λ entries. IsOfTables (λ t. map (λ r. entry_from t (kept_row_of r)) rows.now)

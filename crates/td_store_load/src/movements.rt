@@ -8,7 +8,6 @@ ghost use Rattle.sqlite.specs.State.{HasCleanDisk};
 ghost use Rattle.td_model.specs.Account.{movement_by_lrn, movement_by_mrn};
 ghost use Rattle.td_model.specs.Content.{Content, account_in};
 ghost use Rattle.td_table_model.specs.Gathering.{line_from, with_lines};
-ghost use Rattle.typed_sql.specs.Reading.{IsInside};
 ghost use Rattle.td_store_rows.specs.StoreReads.{ReadsNewest};
 ghost use Rattle.td_store_rows.specs.LineTable.{line_row_of as row_of_line};
 ghost use Rattle.td_store_rows.specs.MovementTable.{movement_row_of};
@@ -30,7 +29,6 @@ fn line_on<S: Alter>(
     tx: &mut Transaction<'_, S>,
     row: &StoredLine,
 ) -> Result<Line, Error>
-    requires { IsInside (state S.Store tx.old.conn.now) }
     ensures same_reference { tx.new.conn.ghost_name ≡ tx.old.conn.ghost_name }
     ensures line { HasCleanDisk (state S.Store tx.new.conn.now)
         → IfOk result (IsOfTables (λ t. line_from t (row_of_line row.now)) (state S.Store tx.old.conn.now)) }
@@ -52,7 +50,6 @@ fn lines_on<S: Alter>(
     tx: &mut Transaction<'_, S>,
     rows: &[StoredLine],
 ) -> Result<Vec<Line>, Error>
-    requires { IsInside (state S.Store tx.old.conn.now) }
     ensures same_reference { tx.new.conn.ghost_name ≡ tx.old.conn.ghost_name }
     ensures lines { HasCleanDisk (state S.Store tx.new.conn.now)
         → IfOk result (λ lines. IsOfTables (λ t. map (λ l. line_from t (row_of_line l)) rows.now)
@@ -73,7 +70,6 @@ pub fn movement_with_lines<S: Alter>(
     tx: &mut Transaction<'_, S>,
     stored: StoredMovement,
 ) -> Result<Movement, Error>
-    requires { IsInside (state S.Store tx.old.conn.now) }
     ensures same_reference { tx.new.conn.ghost_name ≡ tx.old.conn.ghost_name }
     ensures whole { HasCleanDisk (state S.Store tx.new.conn.now)
         → IfOk result (IsOfTables (λ t. with_lines t (movement_row_of stored)) (state S.Store tx.old.conn.now)) }
@@ -94,7 +90,6 @@ pub fn load_movement_by_mrn<S: Alter>(
     holder: HolderNo,
     mrn: &Mrn,
 ) -> Result<Option<Movement>, Error>
-    requires { IsInside (state S.Store tx.old.conn.now) }
     ensures same_reference { tx.new.conn.ghost_name ≡ tx.old.conn.ghost_name }
     ensures found { HasCleanDisk (state S.Store tx.new.conn.now)
         → IfOk result (IsOfContent country (λ c. movement_by_mrn mrn.now (account_in holder c).movements)
@@ -116,7 +111,6 @@ pub fn load_status_by_mrn<S: Alter>(
     holder: HolderNo,
     mrn: &Mrn,
 ) -> Result<Option<Movement>, Error>
-    requires { IsInside (state S.Store tx.old.conn.now) }
     ensures same_reference { tx.new.conn.ghost_name ≡ tx.old.conn.ghost_name }
     ensures found { HasCleanDisk (state S.Store tx.new.conn.now)
         → IfOk result (IsOfContent country
@@ -138,7 +132,6 @@ pub fn load_movement_by_lrn<S: Alter>(
     holder: HolderNo,
     lrn: &Lrn,
 ) -> Result<Option<Movement>, Error>
-    requires { IsInside (state S.Store tx.old.conn.now) }
     ensures same_reference { tx.new.conn.ghost_name ≡ tx.old.conn.ghost_name }
     ensures found { HasCleanDisk (state S.Store tx.new.conn.now)
         → IfOk result (λ found. (c : Content) → HoldsContent c (state S.Store tx.old.conn.now)

@@ -11,7 +11,6 @@ ghost use Rattle.td_acts.specs.Weighing.{kept_for};
 ghost use Rattle.td_store_rows.specs.StoreReads.{ReadsNewest};
 ghost use Rattle.td_store_rows.specs.StoreTables.{HoldsContent};
 ghost use Rattle.td_store_load.specs.Needed.{IsLoadedFor};
-ghost use Rattle.typed_sql.specs.Reading.{IsInside};
 
 use crate::entries::{load_declared_on, load_entry};
 use crate::lists::{list_guarantees, list_movements};
@@ -33,7 +32,6 @@ pub fn load<S: Alter>(
     owner: Option<HolderNo>,
     needs: &Needs<'_>,
 ) -> Result<Loaded, Error>
-    requires { IsInside (state S.Store tx.old.conn.now) }
     ensures same_reference { tx.new.conn.ghost_name ≡ tx.old.conn.ghost_name }
     ensures loaded { HasCleanDisk (state S.Store tx.new.conn.now)
         → IfOk result (λ loaded. (c : Content) → HoldsContent c (state S.Store tx.old.conn.now) → c.country ≡ country
@@ -57,7 +55,6 @@ fn load_for<S: Alter>(
     row: HolderRow,
     needs: &Needs<'_>,
 ) -> Result<Loaded, Error>
-    requires { IsInside (state S.Store tx.old.conn.now) }
     ensures same_reference { tx.new.conn.ghost_name ≡ tx.old.conn.ghost_name }
     ensures loaded { HasCleanDisk (state S.Store tx.new.conn.now)
         → IfOk result (IsLoadedFor country row (need_said needs.now) (state S.Store tx.old.conn.now)) }
@@ -111,7 +108,6 @@ fn load_lodging<S: Alter>(
     lrn: &Lrn,
     lines: &Lines,
 ) -> Result<Loaded, Error>
-    requires { IsInside (state S.Store tx.old.conn.now) }
     ensures same_reference { tx.new.conn.ghost_name ≡ tx.old.conn.ghost_name }
     ensures loaded { HasCleanDisk (state S.Store tx.new.conn.now)
         → IfOk result (IsLoadedFor country row (lodging lrn.now lines.now) (state S.Store tx.old.conn.now)) }
@@ -137,7 +133,6 @@ fn load_movement<S: Alter>(
     row: HolderRow,
     mrn: &Mrn,
 ) -> Result<Loaded, Error>
-    requires { IsInside (state S.Store tx.old.conn.now) }
     ensures same_reference { tx.new.conn.ghost_name ≡ tx.old.conn.ghost_name }
     ensures loaded { HasCleanDisk (state S.Store tx.new.conn.now)
         → IfOk result (IsLoadedFor country row (movement mrn.now) (state S.Store tx.old.conn.now)) }
@@ -157,7 +152,6 @@ fn load_status<S: Alter>(
     row: HolderRow,
     mrn: &Mrn,
 ) -> Result<Loaded, Error>
-    requires { IsInside (state S.Store tx.old.conn.now) }
     ensures same_reference { tx.new.conn.ghost_name ≡ tx.old.conn.ghost_name }
     ensures loaded { HasCleanDisk (state S.Store tx.new.conn.now)
         → IfOk result (IsLoadedFor country row (status mrn.now) (state S.Store tx.old.conn.now)) }
@@ -177,7 +171,6 @@ fn load_release<S: Alter>(
     row: HolderRow,
     mrn: &Mrn,
 ) -> Result<Loaded, Error>
-    requires { IsInside (state S.Store tx.old.conn.now) }
     ensures same_reference { tx.new.conn.ghost_name ≡ tx.old.conn.ghost_name }
     ensures loaded { HasCleanDisk (state S.Store tx.new.conn.now)
         → IfOk result (IsLoadedFor country row (release mrn.now) (state S.Store tx.old.conn.now)) }
@@ -204,7 +197,6 @@ fn load_movements<S: Alter>(
     country: Country,
     row: HolderRow,
 ) -> Result<Loaded, Error>
-    requires { IsInside (state S.Store tx.old.conn.now) }
     ensures same_reference { tx.new.conn.ghost_name ≡ tx.old.conn.ghost_name }
     ensures loaded { HasCleanDisk (state S.Store tx.new.conn.now)
         → IfOk result (IsLoadedFor country row all_movements (state S.Store tx.old.conn.now)) }
@@ -224,7 +216,6 @@ fn load_guarantee<S: Alter>(
     row: HolderRow,
     grn: &Grn,
 ) -> Result<Loaded, Error>
-    requires { IsInside (state S.Store tx.old.conn.now) }
     ensures same_reference { tx.new.conn.ghost_name ≡ tx.old.conn.ghost_name }
     ensures loaded { HasCleanDisk (state S.Store tx.new.conn.now)
         → IfOk result (IsLoadedFor country row (guarantee grn.now) (state S.Store tx.old.conn.now)) }
@@ -243,7 +234,6 @@ fn load_guarantees<S: Alter>(
     country: Country,
     row: HolderRow,
 ) -> Result<Loaded, Error>
-    requires { IsInside (state S.Store tx.old.conn.now) }
     ensures same_reference { tx.new.conn.ghost_name ≡ tx.old.conn.ghost_name }
     ensures loaded { HasCleanDisk (state S.Store tx.new.conn.now)
         → IfOk result (IsLoadedFor country row all_guarantees (state S.Store tx.old.conn.now)) }

@@ -9,7 +9,6 @@ ghost use Rattle.td_guarantee.specs.Terms.{without_codes};
 ghost use Rattle.td_model.specs.Account.{movement_by_mrn};
 ghost use Rattle.td_model.specs.Content.{Content, account_in};
 ghost use Rattle.td_table_model.specs.Gathering.{with_lines};
-ghost use Rattle.typed_sql.specs.Reading.{IsInside};
 ghost use Rattle.td_store_rows.specs.LineTable.{line_row_of as row_of_line};
 ghost use Rattle.td_store_rows.specs.MovementTable.{movement_row_of};
 ghost use Rattle.td_store_rows.specs.StoreReads.{ReadsNewest};
@@ -66,7 +65,6 @@ fn kept_near<S: Alter>(
     serial: u32,
     rows: &[StoredLine],
 ) -> Result<Vec<KeptGuarantee>, Error>
-    requires { IsInside (state S.Store tx.old.conn.now) }
     ensures same_reference { tx.new.conn.ghost_name ≡ tx.old.conn.ghost_name }
     ensures kept { HasCleanDisk (state S.Store tx.new.conn.now)
         → IfOk result (λ kept. (c : Content) (holds : HoldsContent c (state S.Store tx.old.conn.now))
@@ -107,7 +105,6 @@ fn lines_with_terms<S: Alter>(
     holder: HolderNo,
     rows: &[StoredLine],
 ) -> Result<(Vec<Line>, Vec<(Guarantee, Cents)>), Error>
-    requires { IsInside (state S.Store tx.old.conn.now) }
     ensures same_reference { tx.new.conn.ghost_name ≡ tx.old.conn.ghost_name }
     ensures lines { HasCleanDisk (state S.Store tx.new.conn.now)
         → IfOk result (λ both. IsOfTables (λ t. map (λ l. line_of holder t (row_of_line l)) rows.now)
@@ -136,7 +133,6 @@ fn movement_with_terms<S: Alter>(
     tx: &mut Transaction<'_, S>,
     stored: StoredMovement,
 ) -> Result<(Movement, Vec<(Guarantee, Cents)>), Error>
-    requires { IsInside (state S.Store tx.old.conn.now) }
     ensures same_reference { tx.new.conn.ghost_name ≡ tx.old.conn.ghost_name }
     ensures whole { HasCleanDisk (state S.Store tx.new.conn.now)
         → IfOk result (λ both. IsOfTables (λ t. with_lines t (movement_row_of stored)) (state S.Store tx.old.conn.now) both.0) }
@@ -161,7 +157,6 @@ pub fn load_released<S: Alter>(
     holder: HolderNo,
     mrn: &Mrn,
 ) -> Result<Option<(Movement, Vec<(Guarantee, Cents)>)>, Error>
-    requires { IsInside (state S.Store tx.old.conn.now) }
     ensures same_reference { tx.new.conn.ghost_name ≡ tx.old.conn.ghost_name }
     ensures found { HasCleanDisk (state S.Store tx.new.conn.now)
         → IfOk result (λ found. IsOfContent country (λ c. movement_by_mrn mrn.now (account_in holder c).movements)

@@ -14,7 +14,7 @@ use Rattle.td_table_model.specs.Changes.{HaveSameRows, used_after, with_use_afte
 use Rattle.td_table_model.specs.Looking.{amount_between, cents_of}
 use Rattle.td_table_model.proofs.Counting.{sum_by-map}
 use Rattle.td_table_model.proofs.Joining.{sum_by-passing, sum_by-same}
-use Rattle.typed_sql.specs.Reading.{IsInside, StaysInside}
+use Rattle.typed_sql.specs.Reading.{StaysInside}
 use Rattle.typed_sql.proofs.OnlyRead.{stays_nothing, stays_on}
 use Rattle.typed_sql.proofs.Ordered.{both_pass}
 use Rattle.td_store_rows.specs.GuaranteeTable.{has_serial}
@@ -189,10 +189,10 @@ change_left state none H n cents k = by_test (has_serial H n k)
     by_test true = ap (λ used. with_amount used (without_amount k)) (used_left state none cents k.row.used)
     by_test false = refl
 
-pub nothing_followed : (H : ℕ) (state : State) (all : List StoredLine) (a : FileState) → IsInside a → HasFollowed H state [] all a a
-nothing_followed H state all a inside = record {
+pub nothing_followed : (H : ℕ) (state : State) (all : List StoredLine) (a : FileState) → HasFollowed H state [] all a a
+nothing_followed H state all a = record {
   tables = λ clean. nothing_turned (FitLines H state all) (with_lines H state []) (none_there H state) a;
-  within = stays_nothing inside;
+  within = stays_nothing;
 }
 
 pub follow_next : (H : ℕ) (state : State) (lines all : List StoredLine) (x : StoredLine) (a b d : FileState)

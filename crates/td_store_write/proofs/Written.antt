@@ -5,7 +5,7 @@ use Rattle.std.proofs.lemmas.List.Sorted.{IsPermutation-middle}
 use Rattle.sqlite.specs.State.{State, HasCleanDisk}
 use Rattle.td_table_model.specs.Tables.{Tables, numbered}
 use Rattle.td_table_model.specs.Changes.{HaveSameRows}
-use Rattle.typed_sql.specs.Reading.{IsInside, StaysInside}
+use Rattle.typed_sql.specs.Reading.{StaysInside}
 use Rattle.typed_sql.proofs.OnlyRead.{stays_nothing, stays_on}
 use Rattle.td_store_rows.specs.StoreTables.{TurnsTables}
 use Rattle.td_store_rows.proofs.Chained.{RespectsRows, turned_as, turned_nothing, turned_then}
@@ -15,9 +15,9 @@ pub record HasWritten (f : Tables → Tables) (old new : State) : Type 0 where
   pub within : StaysInside true old new
 
 -- nothing yet
-pub nothing_written : (f : Tables → Tables) → ((t : Tables) → HaveSameRows (f t) t) → (a : State) → IsInside a
+pub nothing_written : (f : Tables → Tables) → ((t : Tables) → HaveSameRows (f t) t) → (a : State)
     → HasWritten f a a
-nothing_written f same a inside = record { tables = λ clean. turned_nothing f same a; within = stays_nothing inside }
+nothing_written f same a = record { tables = λ clean. turned_nothing f same a; within = stays_nothing }
 
 -- a statement more
 pub written_then : (f g : Tables → Tables) → RespectsRows g → (a b d : State) → HasWritten f a b → HasWritten g b d

@@ -3,7 +3,7 @@
 ghost use Rattle.std.specs.Prelude.{◌≡◌, map, OnOk, is_ok};
 ghost use Rattle.sqlite.specs.Held.{state};
 ghost use Rattle.sqlite.specs.State.{HasCleanDisk};
-ghost use Rattle.typed_sql.specs.Reading.{IsInside, StaysInside};
+ghost use Rattle.typed_sql.specs.Reading.{StaysInside};
 ghost use Rattle.td_store_rows.specs.GuaranteeTable.{has_serial};
 ghost use Rattle.td_store_rows.specs.KeptTable.{MayChange};
 ghost use Rattle.td_store_write.specs.InUse.{FitLines, MayFollow, TurnsFitting, change_at, changes_use, with_lines};
@@ -31,7 +31,6 @@ fn change_one<S: Alter>(
     status: State,
     cents: Cents,
 ) -> Result<(), Error>
-    requires { IsInside (state S.Store tx.old.conn.now) }
     ensures same_reference { tx.new.conn.ghost_name ≡ tx.old.conn.ghost_name }
     ensures changed { HasCleanDisk (state S.Store tx.new.conn.now) → OnOk result (TurnsFitting
         (λ t. MayChange (has_serial holder serial) (λ k. MayFollow status cents k.row.used) t.kept)
@@ -54,7 +53,6 @@ pub fn change_by_lines<S: Alter>(
     status: State,
     lines: &[StoredLine],
 ) -> Result<(), Error>
-    requires { IsInside (state S.Store tx.old.conn.now) }
     ensures same_reference { tx.new.conn.ghost_name ≡ tx.old.conn.ghost_name }
     ensures changed { HasCleanDisk (state S.Store tx.new.conn.now) → OnOk result (TurnsFitting
         (FitLines holder status lines.now) (λ t. record t { kept = map (with_lines holder status lines.now) t.kept })

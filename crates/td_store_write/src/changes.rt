@@ -7,7 +7,7 @@ ghost use Rattle.td_model.specs.declared.change.Change.TheVariants as change;
 ghost use Rattle.td_table_model.specs.Tables.{Tables, code_row, guarantee_no, guarantee_row, line_rows, movement_row};
 ghost use Rattle.td_table_model.specs.Changes.{is_code_of, tables_after, with_row};
 ghost use Rattle.td_table_model.specs.Looking.{movement_no};
-ghost use Rattle.typed_sql.specs.Reading.{IsInside, StaysInside};
+ghost use Rattle.typed_sql.specs.Reading.{StaysInside};
 ghost use Rattle.td_store_rows.specs.CodeTable.{code_row_of};
 ghost use Rattle.td_store_rows.specs.StoreTables.{TurnsTables};
 ghost use Rattle.td_store_write.specs.InUse.{FitsMovement, TurnsFitting};
@@ -34,7 +34,6 @@ pub fn write_change<S: Alter>(
     country: Country,
     change: &Change,
 ) -> Result<(), Error>
-    requires { IsInside (state S.Store tx.old.conn.now) }
     ensures same_reference { tx.new.conn.ghost_name ≡ tx.old.conn.ghost_name }
     ensures written { HasCleanDisk (state S.Store tx.new.conn.now) → OnOk result (WritesChange country change.now
         (state S.Store tx.old.conn.now) (state S.Store tx.new.conn.now)) }
@@ -58,7 +57,6 @@ fn write_opened<S: Alter>(
     row: &HolderRow,
     guarantee: &Guarantee,
 ) -> Result<(), Error>
-    requires { IsInside (state S.Store tx.old.conn.now) }
     ensures same_reference { tx.new.conn.ghost_name ≡ tx.old.conn.ghost_name }
     ensures written { HasCleanDisk (state S.Store tx.new.conn.now) → OnOk result (TurnsTables
         (tables_after (change.Opened row.now guarantee.now))
@@ -78,7 +76,6 @@ fn write_declared<S: Alter>(
     row: &HolderRow,
     movement: &Movement,
 ) -> Result<(), Error>
-    requires { IsInside (state S.Store tx.old.conn.now) }
     ensures same_reference { tx.new.conn.ghost_name ≡ tx.old.conn.ghost_name }
     ensures written { HasCleanDisk (state S.Store tx.new.conn.now) → OnOk result (TurnsTables
         (λ t. record t {
@@ -109,7 +106,6 @@ fn write_moved<S: Alter>(
     row: &HolderRow,
     status: &NewStatus,
 ) -> Result<(), Error>
-    requires { IsInside (state S.Store tx.old.conn.now) }
     ensures same_reference { tx.new.conn.ghost_name ≡ tx.old.conn.ghost_name }
     ensures written { HasCleanDisk (state S.Store tx.new.conn.now) → OnOk result (TurnsFitting
         (FitsMovement row.now.holder (movement_no country status.now.mrn) status.now.state)
@@ -130,7 +126,6 @@ fn write_with_use<S: Alter>(
     row: &HolderRow,
     status: &NewStatus,
 ) -> Result<(), Error>
-    requires { IsInside (state S.Store tx.old.conn.now) }
     ensures same_reference { tx.new.conn.ghost_name ≡ tx.old.conn.ghost_name }
     ensures written { HasCleanDisk (state S.Store tx.new.conn.now) → OnOk result (TurnsFitting
         (FitsMovement row.now.holder (movement_no country status.now.mrn) status.now.state)
@@ -150,7 +145,6 @@ fn write_status<S: Alter>(
     row: &HolderRow,
     status: &NewStatus,
 ) -> Result<(), Error>
-    requires { IsInside (state S.Store tx.old.conn.now) }
     ensures same_reference { tx.new.conn.ghost_name ≡ tx.old.conn.ghost_name }
     ensures written { HasCleanDisk (state S.Store tx.new.conn.now) → OnOk result (TurnsTables
         (with_status_set country row.now status.now) (state S.Store tx.old.conn.now) (state S.Store tx.new.conn.now)) }
@@ -168,7 +162,6 @@ fn write_terms<S: Alter>(
     row: &HolderRow,
     terms: &NewTerms,
 ) -> Result<(), Error>
-    requires { IsInside (state S.Store tx.old.conn.now) }
     ensures same_reference { tx.new.conn.ghost_name ≡ tx.old.conn.ghost_name }
     ensures written { HasCleanDisk (state S.Store tx.new.conn.now) → OnOk result (TurnsTables
         (λ t. record t {
@@ -192,7 +185,6 @@ fn add_code<S: Alter>(
     grn: &Grn,
     code: AccessCode,
 ) -> Result<(), Error>
-    requires { IsInside (state S.Store tx.old.conn.now) }
     ensures same_reference { tx.new.conn.ghost_name ≡ tx.old.conn.ghost_name }
     ensures written { HasCleanDisk (state S.Store tx.new.conn.now) → OnOk result (TurnsTables
         (λ t. record t {
@@ -214,7 +206,6 @@ fn remove_code<S: Alter>(
     grn: &Grn,
     code: AccessCode,
 ) -> Result<(), Error>
-    requires { IsInside (state S.Store tx.old.conn.now) }
     ensures same_reference { tx.new.conn.ghost_name ≡ tx.old.conn.ghost_name }
     ensures written { HasCleanDisk (state S.Store tx.new.conn.now) → OnOk result (TurnsTables
         (λ t. record t {

@@ -3,7 +3,7 @@ ghost use Rattle.std.specs.Prelude.{◌≡◌, ◌++◌, map, OnOk, is_ok};
 ghost use Rattle.sqlite.specs.Held.{state};
 ghost use Rattle.sqlite.specs.State.{HasCleanDisk};
 ghost use Rattle.td_table_model.specs.Tables.{code_row, line_row, numbered};
-ghost use Rattle.typed_sql.specs.Reading.{IsInside, StaysInside};
+ghost use Rattle.typed_sql.specs.Reading.{StaysInside};
 ghost use Rattle.td_store_rows.specs.StoreTables.{TurnsTables};
 
 use sqlite::{Error, ErrorCode, Transaction};
@@ -19,7 +19,6 @@ pub fn insert_codes<S: Alter>(
     serial: u32,
     codes: &[AccessCode],
 ) -> Result<(), Error>
-    requires { IsInside (state S.Store tx.old.conn.now) }
     ensures same_reference { tx.new.conn.ghost_name ≡ tx.old.conn.ghost_name }
     ensures inserted { HasCleanDisk (state S.Store tx.new.conn.now) → OnOk result (TurnsTables
         (λ t. record t { codes = map (code_row holder serial) codes.now ++ t.codes })
@@ -49,7 +48,6 @@ pub fn insert_lines<S: Alter>(
     serial: u32,
     lines: &[Line],
 ) -> Result<(), Error>
-    requires { IsInside (state S.Store tx.old.conn.now) }
     ensures same_reference { tx.new.conn.ghost_name ≡ tx.old.conn.ghost_name }
     ensures inserted { HasCleanDisk (state S.Store tx.new.conn.now) → OnOk result (TurnsTables
         (λ t. record t { lines = map (line_row country holder serial) (numbered 0 lines.now) ++ t.lines })

@@ -1,7 +1,9 @@
 -- What a SELECT answered, and that it only read.
 use Rattle.sqlite.specs.declared.error.Error.{Error}
-use Rattle.sqlite.specs.State.{FailsToShow, FailsToQuery, IsNotRun, IsRolledBack, IsTooLate, IsUnchanged, KeepsCommit, Shown, ShowsRows, State}
-use Rattle.std.proofs.Common.{ap, cond, List, None, Ok, Option, Result, Some, inl, inr, subst, sym, ℕ, ◌∙◌, ◌≡◌}
+use Rattle.sqlite.specs.State.{ExecutesInside, FailsToShow, HasCleanDisk, Survives, FailsToQuery, IsNotRun, IsRolledBack, IsTooLate, IsUnchanged, KeepsCommit, Shown, ShowsRows, State}
+use Rattle.std.proofs.Common.{ap, cond, Bool, Err, false, List, None, Ok, Option, refl, Result, Some, true, inl, inr, subst, sym, ℕ, ◌∙◌, ◌≡◌}
+use Rattle.std.proofs.lemmas.Bool.{false≢true}
+use Rattle.sqlite.proofs.InsideLemmas.{inside_keeps}
 use Rattle.sqlite_schema.specs.declared.command.Returning.{Returning}
 use Rattle.sqlite_value.specs.declared.value.Value.TheVariants.{Null}
 use Rattle.sqlite.proofs.Callers.{reads_as}
@@ -11,10 +13,10 @@ use Rattle.sqlite.specs.Listing.{understood}
 use Rattle.sqlite_resolve.specs.declared.compiled.Compiled.{Compiled}
 use Rattle.sqlite_resolve.specs.declared.error.CompileError.{CompileError}
 use Rattle.sqlite_value.specs.Order.{Row}
-use Rattle.std.specs.Prelude.{IsTrue}
+use Rattle.std.specs.Prelude.{IsTrue, is_ok}
 use Rattle.typed_sql.proofs.Queries.{plain_answer}
 use Rattle.typed_sql.proofs.Steps.{command_is}
-use Rattle.typed_sql.specs.Reading.{OnlyReads, Selects}
+use Rattle.typed_sql.specs.Reading.{OnlyReads, Selects, StaysInside}
 
 pub bare : (r : Result Compiled CompileError) → IsPlain r → (c : Compiled) → r ≡ Ok c → c.returning ≡ None
 bare r plain c is = (subst IsPlain is plain).0
@@ -104,3 +106,23 @@ shown_inside text params old new rows inside h = by_returning h.0.returning h.2
         → IsTrue new.in_transaction
     by_returning None shown = shown.3.0.mode ∙ inside
     by_returning (Some what) wrote = wrote.1.shown.mode ∙ inside
+
+-- a statement that ended well ran inside a transaction, where one that runs outside is refused
+pub was_inside : {A E X : Type 0} (b : Bool) (x : A) (e : E) → (b ≡ false → ◌≡◌ {A = Result A E} (Ok x) (Err e) × X) → IsTrue b
+was_inside true x e h = refl
+was_inside false x e h = absurd (let y = (h refl).0 in cc)
+
+-- however it ended, nothing is committed
+pub executed_stays : (text : List ℕ) (params : Row) (old new : State) (r : Result ℕ Error) (e : Error) {X : Type 0}
+    → (old.in_transaction ≡ false → (r ≡ Err e) × X)
+    → (HasCleanDisk new → IsTrue old.in_transaction → ExecutesInside 0 text params old new r)
+    → Survives old new (λ _. ⊥) → StaysInside (is_ok r) old new
+executed_stays text params old new r e ended ran s = record {
+  inside = λ clean well was. goes_on r (ran clean was) well;
+  kept = λ clean was. inside_keeps old new 0 false text params r (ran clean was);
+  survives = s;
+}
+  where
+    goes_on : (r : Result ℕ Error) → ExecutesInside 0 text params old new r → IsTrue (is_ok r) → IsTrue new.in_transaction
+    goes_on (Ok count) h well = h.1.mode
+    goes_on (Err e) h well = absurd (false≢true well)

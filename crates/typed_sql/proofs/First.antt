@@ -129,24 +129,22 @@ module _ (text : List ℕ) (values : Row) (old new : State) where
     | inr shown ↦ reads_only text values old new [] shown s has plain
   ]
 
-  pub row_within : (row : Row) → Survives old new (λ _. ⊥) → (HasCleanDisk new → IsTrue old.in_transaction)
-      → (HasCleanDisk new → QueriesRow text values old new (Ok row)) → StaysInside true old new
-  row_within row survives inside h = record {
-    inside = λ clean well. row_inside row (inside clean) (h clean);
-    kept = λ clean. row_keeps row (inside clean) (h clean);
+  pub row_within : (row : Row) → Survives old new (λ _. ⊥) → (HasCleanDisk new → QueriesRow text values old new (Ok row)) → StaysInside true old new
+  row_within row survives h = record {
+    inside = λ clean well was. row_inside row was (h clean);
+    kept = λ clean was. row_keeps row was (h clean);
     survives = survives;
   }
 
-  pub none_within : Survives old new (λ _. ⊥) → (HasCleanDisk new → IsTrue old.in_transaction)
-      → (HasCleanDisk new → FindsNone) → StaysInside true old new
-  none_within survives inside h = record {
-    inside = λ clean well. elim (none_shown (h clean)) [
-      | inl other ↦ other.0.0.mode ∙ inside clean
-      | inr shown ↦ shown_inside text values old new [] (inside clean) shown
+  pub none_within : Survives old new (λ _. ⊥) → (HasCleanDisk new → FindsNone) → StaysInside true old new
+  none_within survives h = record {
+    inside = λ clean well was. elim (none_shown (h clean)) [
+      | inl other ↦ other.0.0.mode ∙ was
+      | inr shown ↦ shown_inside text values old new [] was shown
     ];
-    kept = λ clean. elim (none_shown (h clean)) [
+    kept = λ clean was. elim (none_shown (h clean)) [
       | inl other ↦ unchanged_keeps old new other.0
-      | inr shown ↦ shown_keeps text values old new [] (inside clean) shown
+      | inr shown ↦ shown_keeps text values old new [] was shown
     ];
     survives = survives;
   }
@@ -157,10 +155,9 @@ module _ (text : List ℕ) (values : Row) (old new : State) where
   failed_inside e inside (inl (inr none)) = shown_keeps text values old new [] inside none.1
   failed_inside e inside (inr late) = late_keeps text values old new e late
 
-  pub failed_within : (e : Error) → Survives old new (λ _. ⊥) → (HasCleanDisk new → IsTrue old.in_transaction)
-      → (HasCleanDisk new → QueriesRowInside text values old new (Err e)) → StaysInside false old new
-  failed_within e survives inside h = record {
-    inside = λ clean well. absurd (false≢true well);
-    kept = λ clean. failed_inside e (inside clean) (h clean);
+  pub failed_within : (e : Error) → Survives old new (λ _. ⊥) → (HasCleanDisk new → QueriesRowInside text values old new (Err e)) → StaysInside false old new
+  failed_within e survives h = record {
+    inside = λ clean well was. absurd (false≢true well);
+    kept = λ clean was. failed_inside e was (h clean);
     survives = survives;
   }

@@ -3,7 +3,7 @@ pub mod Ids
 pub mod Queries
 pub mod Steps
 pub mod Effects
-mod Answering
+pub mod Answering
 pub mod Leaving
 pub mod OnlyRead
 pub mod TypedRows

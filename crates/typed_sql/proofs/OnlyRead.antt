@@ -6,7 +6,7 @@ use Rattle.sqlite.specs.Effect.{Database}
 use Rattle.sqlite.specs.State.{State}
 use Rattle.sqlite.proofs.Callers.{unchanged_then}
 use Rattle.sqlite.proofs.StateLemmas.{survives_then, unchanged}
-use Rattle.typed_sql.specs.Reading.{HasOnlyRead, IsInside, LeavesAll, OnlyRead, Reads, StaysInside}
+use Rattle.typed_sql.specs.Reading.{HasOnlyRead, LeavesAll, OnlyRead, Reads, StaysInside}
 use Rattle.typed_sql.specs.Writing.{HasSchema}
 
 -- the tables are still those of the schema
@@ -36,11 +36,11 @@ read_more a b d first second has =
           unchanged_then a b d before (two.unchanged before.0.is_open);
     }
 
--- no call inside a transaction
-pub stays_nothing : {w : Bool} {a : State} → IsInside a → StaysInside w a a
-stays_nothing inside = record {
-  inside = λ clean well. inside clean;
-  kept = λ clean. record { was_open = λ is. is; committed = λ is. refl };
+-- no call
+pub stays_nothing : {w : Bool} {a : State} → StaysInside w a a
+stays_nothing = record {
+  inside = λ clean well was. was;
+  kept = λ clean was. record { was_open = λ is. is; committed = λ is. refl };
   survives = record {
     clean = omega arith;
     shield = λ h. h;
@@ -54,10 +54,11 @@ stays_nothing inside = record {
 -- calls after calls that ended well
 pub stays_on : {w : Bool} {a b d : State} → StaysInside true a b → StaysInside w b d → StaysInside w a d
 stays_on {w} {a} {b} {d} first second = record {
-  inside = second.inside;
-  kept = λ clean.
-      let one = first.kept (omega (arith, clean, second.survives.clean)) in
-      let two = second.kept clean in
+  inside = λ clean well was.
+      second.inside clean well (first.inside (omega (arith, clean, second.survives.clean)) refl was);
+  kept = λ clean was.
+      let one = first.kept (omega (arith, clean, second.survives.clean)) was in
+      let two = second.kept clean (first.inside (omega (arith, clean, second.survives.clean)) refl was) in
       record {
         was_open = λ is. one.was_open (two.was_open is);
         committed = λ is. two.committed is ∙ one.committed (two.was_open is);
@@ -68,7 +69,7 @@ stays_on {w} {a} {b} {d} first second = record {
 -- calls that ended well, whatever is answered after them
 pub stays_well : {w : Bool} {a b : State} → StaysInside true a b → StaysInside w a b
 stays_well first = record {
-  inside = λ clean well. first.inside clean refl;
+  inside = λ clean well was. first.inside clean refl was;
   kept = first.kept;
   survives = first.survives;
 }

@@ -1,6 +1,6 @@
 -- What a call outside a transaction leaves that only looks: calls one after another, and a transaction that only read and was
 -- committed.
-use Rattle.std.proofs.Common.{◌≡◌, ◌∙◌, [], Err, Ok, Result, true, false, ap, arith, inl, inr, sym}
+use Rattle.std.proofs.Common.{◌≡◌, ◌∙◌, [], Err, Ok, Result, true, false, ap, arith, inl, inr, sym, refl}
 use Rattle.std.proofs.lemmas.Bool.{false≢true}
 use Rattle.std.specs.Prelude.{Bool, IsErr, IsTrue, is_ok}
 use Rattle.sqlite_trees.specs.declared.store.Store.{Ghosts}
@@ -85,7 +85,7 @@ module _ {S : Type 0} (g : Ghosts S) (old : Held S) (read new : State) (settled 
     same = λ clean is. elim (failed clean) [
       | inl undone ↦
           let was : IsRolledBack read new = undone.3 in
-          (was.undone is).0 ∙ (within.kept (before clean)).committed (was.was_open is) ∙ sym (committed (still (before clean)).0)
+          (was.undone is).0 ∙ (within.kept (before clean) refl).committed (was.was_open is) ∙ sym (committed (still (before clean)).0)
       | inr left ↦ left.2.0.now_is ∙ (still (before clean)).1
     ];
     crash = survives;

@@ -59,15 +59,11 @@ pub record HasOnlyRead (old new : State) : Type 0 where
 abbrev pub OnlyRead : Schema → State → State → Type 0
 OnlyRead s old new = HasSchema old s → HasOnlyRead old new
 
--- the caller's transaction is open, as far as the disk is clean
-abbrev pub IsInside : State → Type 0
-IsInside s = HasCleanDisk s → IsTrue s.in_transaction
-
--- A call inside a transaction: where it ended well the transaction goes on; however it ended, nothing is committed, and a
--- crash leaves what it could leave before.
+-- A call on a transaction. If that was open, it is open still where the call ended well, and nothing is committed however it
+-- ended. A crash leaves what it could leave before.
 pub record StaysInside (well : Bool) (old new : State) : Type 0 where
-  pub inside : HasCleanDisk new → IsTrue well → IsTrue new.in_transaction
-  pub kept : HasCleanDisk new → KeepsCommit old new
+  pub inside : HasCleanDisk new → IsTrue well → IsTrue old.in_transaction → IsTrue new.in_transaction
+  pub kept : HasCleanDisk new → IsTrue old.in_transaction → KeepsCommit old new
   pub survives : Survives old new (λ _. ⊥)
 
 -- one that only reads: where it ended well, all is as it was, if the tables are those of the schema

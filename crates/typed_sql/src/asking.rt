@@ -3,7 +3,7 @@ ghost use Rattle.std.specs.Prelude.{◌≡◌, false, IsTrue, OnOk, is_ok};
 ghost use Rattle.sqlite.specs.Held.{state};
 ghost use Rattle.sqlite.specs.State.{HasCleanDisk, IsLive, IsUnchanged};
 ghost use Rattle.typed_sql.specs.Outside.{CrashLeavesShown, Looks};
-ghost use Rattle.typed_sql.specs.Reading.{IsInside, StaysInside};
+ghost use Rattle.typed_sql.specs.Reading.{StaysInside};
 
 use sqlite::{Connection, Error, Transaction};
 use sqlite_trees::store::Alter;
@@ -11,7 +11,6 @@ use sqlite_trees::store::Alter;
 /// Sees that the connection is open, inside a transaction: it runs the empty statement, which does nothing. Once that was
 /// compiled, no memory is taken. An error is the database's own.
 pub fn see_open<S: Alter>(tx: &mut Transaction<'_, S>) -> Result<(), Error>
-    requires { IsInside (state S.Store tx.old.conn.now) }
     ensures same_reference { tx.new.conn.ghost_name ≡ tx.old.conn.ghost_name }
     ensures still { HasCleanDisk (state S.Store tx.new.conn.now)
         → OnOk result (IsUnchanged (state S.Store tx.old.conn.now) (state S.Store tx.new.conn.now)) }

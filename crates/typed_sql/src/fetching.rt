@@ -5,7 +5,7 @@ ghost use Rattle.std.specs.Option.{option_to_list};
 ghost use Rattle.sqlite.specs.Held.{state};
 ghost use Rattle.sqlite.specs.State.{HasCleanDisk};
 ghost use Rattle.sqlite.specs.Values.{bound};
-ghost use Rattle.typed_sql.specs.Reading.{Fetches, IsInside, OnlyReads, StaysInside};
+ghost use Rattle.typed_sql.specs.Reading.{Fetches, OnlyReads, StaysInside};
 ghost use Rattle.typed_sql.specs.Visited.{FetchesFirst};
 
 use crate::rows::{FromRow, only, read_rows};
@@ -22,7 +22,6 @@ pub fn fetch<S: Alter, T: FromRow>(
     text: &str,
     values: &[ValueRef<'_>],
 ) -> Result<Vec<T>, Error>
-    requires { IsInside (state S.Store tx.old.conn.now) }
     ensures same_reference { tx.new.conn.ghost_name ≡ tx.old.conn.ghost_name }
     ensures found { HasCleanDisk (state S.Store tx.new.conn.now) → IfOk result (λ found.
         Fetches T.typed T.from text.now (bound values.now) (state S.Store tx.old.conn.now) found.items) }
@@ -42,7 +41,6 @@ pub fn fetch_one<S: Alter, T: FromRow>(
     text: &str,
     values: &[ValueRef<'_>],
 ) -> Result<Option<T>, Error>
-    requires { IsInside (state S.Store tx.old.conn.now) }
     ensures same_reference { tx.new.conn.ghost_name ≡ tx.old.conn.ghost_name }
     ensures found { HasCleanDisk (state S.Store tx.new.conn.now) → IfOk result (λ found.
         Fetches T.typed T.from text.now (bound values.now) (state S.Store tx.old.conn.now) (option_to_list found)) }
@@ -61,7 +59,6 @@ pub fn fetch_first<S: Alter, T: FromRow>(
     text: &str,
     values: &[ValueRef<'_>],
 ) -> Result<Option<T>, Error>
-    requires { IsInside (state S.Store tx.old.conn.now) }
     ensures same_reference { tx.new.conn.ghost_name ≡ tx.old.conn.ghost_name }
     ensures found { HasCleanDisk (state S.Store tx.new.conn.now)
         → IfOk result (FetchesFirst T.typed T.from text.now (bound values.now) (state S.Store tx.old.conn.now)) }

@@ -4,7 +4,7 @@ ghost use Rattle.std.specs.Prelude.{◌≡◌, true, Ok, IfOk, OnOk, is_ok};
 ghost use Rattle.sqlite.specs.Held.{state};
 ghost use Rattle.sqlite.specs.State.{Executes, HasCleanDisk, Shows};
 ghost use Rattle.sqlite.specs.Values.{bound};
-ghost use Rattle.typed_sql.specs.Reading.{IsInside, OnlyReads, Selects, StaysInside};
+ghost use Rattle.typed_sql.specs.Reading.{OnlyReads, Selects, StaysInside};
 ghost use Rattle.typed_sql.specs.Visited.{FetchesFirst};
 ghost use Rattle.typed_sql.specs.Writing.{Deletes, Empties, Inserts, Updates};
 
@@ -18,7 +18,6 @@ pub fn insert<S: Alter>(
     text: &str,
     values: &[ValueRef<'_>],
 ) -> Result<(), Error>
-    requires { IsInside (state S.Store tx.old.conn.now) }
     ensures same_reference { tx.new.conn.ghost_name ≡ tx.old.conn.ghost_name }
     ensures inserted { HasCleanDisk (state S.Store tx.new.conn.now)
         → OnOk result (Inserts text.now (bound values.now) (state S.Store tx.old.conn.now) (state S.Store tx.new.conn.now)) }
@@ -37,7 +36,6 @@ fn change_one<S: Alter>(
     text: &str,
     values: &[ValueRef<'_>],
 ) -> Result<(), Error>
-    requires { IsInside (state S.Store tx.old.conn.now) }
     ensures same_reference { tx.new.conn.ghost_name ≡ tx.old.conn.ghost_name }
     ensures ran { HasCleanDisk (state S.Store tx.new.conn.now) → OnOk result (Executes text.now (bound values.now)
         (state S.Store tx.old.conn.now) (state S.Store tx.new.conn.now) (Ok 1)) }
@@ -59,7 +57,6 @@ pub fn update<S: Alter>(
     text: &str,
     values: &[ValueRef<'_>],
 ) -> Result<(), Error>
-    requires { IsInside (state S.Store tx.old.conn.now) }
     ensures same_reference { tx.new.conn.ghost_name ≡ tx.old.conn.ghost_name }
     ensures updated { HasCleanDisk (state S.Store tx.new.conn.now)
         → OnOk result (Updates text.now (bound values.now) (state S.Store tx.old.conn.now) (state S.Store tx.new.conn.now)) }
@@ -77,7 +74,6 @@ pub fn delete<S: Alter>(
     text: &str,
     values: &[ValueRef<'_>],
 ) -> Result<(), Error>
-    requires { IsInside (state S.Store tx.old.conn.now) }
     ensures same_reference { tx.new.conn.ghost_name ≡ tx.old.conn.ghost_name }
     ensures deleted { HasCleanDisk (state S.Store tx.new.conn.now)
         → OnOk result (Deletes text.now (bound values.now) (state S.Store tx.old.conn.now) (state S.Store tx.new.conn.now)) }
@@ -90,7 +86,6 @@ pub fn delete<S: Alter>(
 
 /// Deletes all rows of a table. The text is a DELETE from one table, without a test.
 pub fn empty<S: Alter>(tx: &mut Transaction<'_, S>, text: &str) -> Result<(), Error>
-    requires { IsInside (state S.Store tx.old.conn.now) }
     ensures same_reference { tx.new.conn.ghost_name ≡ tx.old.conn.ghost_name }
     ensures emptied { HasCleanDisk (state S.Store tx.new.conn.now)
         → OnOk result (Empties text.now (state S.Store tx.old.conn.now) (state S.Store tx.new.conn.now)) }
@@ -108,7 +103,6 @@ pub fn select<S: Alter>(
     text: &str,
     values: &[ValueRef<'_>],
 ) -> Result<Vec<Row>, Error>
-    requires { IsInside (state S.Store tx.old.conn.now) }
     ensures same_reference { tx.new.conn.ghost_name ≡ tx.old.conn.ghost_name }
     ensures selected { HasCleanDisk (state S.Store tx.new.conn.now)
         → IfOk result (λ rows. Selects text.now (bound values.now) (state S.Store tx.old.conn.now) rows.items) }
@@ -126,7 +120,6 @@ pub(crate) fn select_first<S: Alter>(
     text: &str,
     values: &[ValueRef<'_>],
 ) -> Result<Option<Row>, Error>
-    requires { IsInside (state S.Store tx.old.conn.now) }
     ensures same_reference { tx.new.conn.ghost_name ≡ tx.old.conn.ghost_name }
     ensures selected { HasCleanDisk (state S.Store tx.new.conn.now)
         → IfOk result (FetchesFirst (λ r. r) (λ r. r) text.now (bound values.now) (state S.Store tx.old.conn.now)) }

@@ -4,7 +4,7 @@ ghost use Rattle.sqlite.specs.Held.{state};
 ghost use Rattle.sqlite.specs.State.{HasCleanDisk, Shows};
 ghost use Rattle.sqlite.specs.Values.{bound};
 ghost use Rattle.td_table_model.specs.Changes.{is_code_of};
-ghost use Rattle.typed_sql.specs.Reading.{IsInside, StaysInside};
+ghost use Rattle.typed_sql.specs.Reading.{StaysInside};
 ghost use Rattle.td_store_rows.specs.Columns.{code_cells};
 ghost use Rattle.td_store_rows.specs.CodeTable.{TurnsCodes, code_row_of};
 
@@ -28,7 +28,6 @@ fn columns(code: &StoredCode) -> [ValueRef<'_>; 3]
 
 /// Inserts the row of a code.
 pub fn insert_code<S: Alter>(tx: &mut Transaction<'_, S>, code: &StoredCode) -> Result<(), Error>
-    requires { IsInside (state S.Store tx.old.conn.now) }
     ensures same_reference { tx.new.conn.ghost_name ≡ tx.old.conn.ghost_name }
     ensures inserted { HasCleanDisk (state S.Store tx.new.conn.now)
         → OnOk result (TurnsCodes (λ rows. code_row_of code.now ∷ rows)
@@ -42,7 +41,6 @@ pub fn insert_code<S: Alter>(tx: &mut Transaction<'_, S>, code: &StoredCode) -> 
 
 /// Deletes the row of a code. `DatabaseCorrupt`: there isn't just one such row.
 pub fn delete_code<S: Alter>(tx: &mut Transaction<'_, S>, code: &StoredCode) -> Result<(), Error>
-    requires { IsInside (state S.Store tx.old.conn.now) }
     ensures same_reference { tx.new.conn.ghost_name ≡ tx.old.conn.ghost_name }
     ensures deleted { HasCleanDisk (state S.Store tx.new.conn.now)
         → OnOk result (TurnsCodes (filter (λ r. not (is_code_of code.now.holder code.now.serial code.now.code r)))

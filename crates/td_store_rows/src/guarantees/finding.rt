@@ -5,7 +5,6 @@ ghost use Rattle.sqlite.specs.Held.{state};
 ghost use Rattle.sqlite.specs.State.{HasCleanDisk};
 ghost use Rattle.sqlite.specs.Values.{bound};
 ghost use Rattle.sqlite_value.specs.declared.value.Value.TheVariants.{Text};
-ghost use Rattle.typed_sql.specs.Reading.{IsInside};
 ghost use Rattle.typed_sql.specs.Values.{number_value};
 ghost use Rattle.td_store_rows.specs.StoreReads.{ReadsKept, ReadsNewest, ReadsVersion};
 ghost use Rattle.td_store_rows.specs.GuaranteeTable.{AreBySerial, AreGuarantees, IsFirstGuarantee, IsTheGuarantee, has_serial};
@@ -44,7 +43,6 @@ pub fn find_kept<S: Alter>(
     serial: u32,
     grn: &Grn,
 ) -> Result<Option<KeptGuarantee>, Error>
-    requires { IsInside (state S.Store tx.old.conn.now) }
     ensures same_reference { tx.new.conn.ghost_name ≡ tx.old.conn.ghost_name }
     ensures found { HasCleanDisk (state S.Store tx.new.conn.now)
         → IfOk result (IsTheKept (has_kept_grn holder serial grn.now) (state S.Store tx.old.conn.now)) }
@@ -60,7 +58,6 @@ pub fn find_by_serial<S: Alter>(
     holder: HolderNo,
     serial: u32,
 ) -> Result<Option<StoredGuarantee>, Error>
-    requires { IsInside (state S.Store tx.old.conn.now) }
     ensures same_reference { tx.new.conn.ghost_name ≡ tx.old.conn.ghost_name }
     ensures found { HasCleanDisk (state S.Store tx.new.conn.now)
         → IfOk result (IsTheGuarantee (has_serial holder serial) (state S.Store tx.old.conn.now)) }
@@ -79,7 +76,6 @@ pub fn guarantees_within<S: Alter>(
     first: u32,
     end: u32,
 ) -> Result<Vec<StoredGuarantee>, Error>
-    requires { IsInside (state S.Store tx.old.conn.now) }
     ensures same_reference { tx.new.conn.ghost_name ≡ tx.old.conn.ghost_name }
     ensures found { HasCleanDisk (state S.Store tx.new.conn.now)
         → IfOk result (λ found. AreGuarantees version (is_within holder first end) (state S.Store tx.old.conn.now) found.items) }
@@ -99,7 +95,6 @@ pub fn next_guarantee_of<S: Alter>(
     holder: u32,
     serial: u32,
 ) -> Result<Option<StoredGuarantee>, Error>
-    requires { IsInside (state S.Store tx.old.conn.now) }
     ensures same_reference { tx.new.conn.ghost_name ≡ tx.old.conn.ghost_name }
     ensures found { HasCleanDisk (state S.Store tx.new.conn.now)
         → IfOk result (IsFirstGuarantee version (is_after holder serial) (state S.Store tx.old.conn.now)) }
@@ -122,7 +117,6 @@ pub fn kept_within<S: Alter>(
     first: u32,
     end: u32,
 ) -> Result<Vec<KeptGuarantee>, Error>
-    requires { IsInside (state S.Store tx.old.conn.now) }
     ensures same_reference { tx.new.conn.ghost_name ≡ tx.old.conn.ghost_name }
     ensures found { HasCleanDisk (state S.Store tx.new.conn.now)
         → IfOk result (λ found. AreKept (is_within holder first end) (state S.Store tx.old.conn.now) found.items) }
@@ -141,7 +135,6 @@ pub fn next_kept_of<S: Alter>(
     holder: u32,
     serial: u32,
 ) -> Result<Option<KeptGuarantee>, Error>
-    requires { IsInside (state S.Store tx.old.conn.now) }
     ensures same_reference { tx.new.conn.ghost_name ≡ tx.old.conn.ghost_name }
     ensures found { HasCleanDisk (state S.Store tx.new.conn.now)
         → IfOk result (IsFirstKept (is_after holder serial) (state S.Store tx.old.conn.now)) }
@@ -157,7 +150,6 @@ pub fn first_kept_above<S: Alter>(
     tx: &mut Transaction<'_, S>,
     holder: u32,
 ) -> Result<Option<KeptGuarantee>, Error>
-    requires { IsInside (state S.Store tx.old.conn.now) }
     ensures same_reference { tx.new.conn.ghost_name ≡ tx.old.conn.ghost_name }
     ensures found { HasCleanDisk (state S.Store tx.new.conn.now)
         → IfOk result (IsFirstKept (is_above holder) (state S.Store tx.old.conn.now)) }

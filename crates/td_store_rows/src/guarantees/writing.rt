@@ -4,7 +4,7 @@ ghost use Rattle.sqlite.specs.Held.{state};
 ghost use Rattle.sqlite.specs.State.{HasCleanDisk, Shows};
 ghost use Rattle.sqlite.specs.Values.{bound};
 ghost use Rattle.td_table_model.specs.Tables.{guarantee_row, with_amount};
-ghost use Rattle.typed_sql.specs.Reading.{IsInside, StaysInside};
+ghost use Rattle.typed_sql.specs.Reading.{StaysInside};
 ghost use Rattle.typed_sql.specs.Values.{number_value};
 ghost use Rattle.td_store_rows.specs.Columns.{kept_cells};
 ghost use Rattle.td_store_rows.specs.GuaranteeTable.{has_serial};
@@ -69,7 +69,6 @@ pub fn insert_guarantee<S: Alter>(
     guarantee: &Guarantee,
     used: Cents,
 ) -> Result<(), Error>
-    requires { IsInside (state S.Store tx.old.conn.now) }
     ensures same_reference { tx.new.conn.ghost_name ≡ tx.old.conn.ghost_name }
     ensures inserted { HasCleanDisk (state S.Store tx.new.conn.now)
         → OnOk result (TurnsKept (λ rows. with_amount used (guarantee_row holder (serial, guarantee.now)) ∷ rows)
@@ -89,7 +88,6 @@ pub fn set_terms<S: Alter>(
     serial: u32,
     terms: &NewTerms,
 ) -> Result<(), Error>
-    requires { IsInside (state S.Store tx.old.conn.now) }
     ensures same_reference { tx.new.conn.ghost_name ≡ tx.old.conn.ghost_name }
     ensures set { HasCleanDisk (state S.Store tx.new.conn.now) → OnOk result (TurnsKept
         (map (λ k. if has_kept_grn holder serial terms.now.grn k then with_new_kept_terms terms.now k else k))
@@ -109,7 +107,6 @@ pub fn add_used<S: Alter>(
     serial: u32,
     cents: Cents,
 ) -> Result<(), Error>
-    requires { IsInside (state S.Store tx.old.conn.now) }
     ensures same_reference { tx.new.conn.ghost_name ≡ tx.old.conn.ghost_name }
     ensures added { HasCleanDisk (state S.Store tx.new.conn.now)
         → OnOk result (TurnsWhere (has_serial holder serial) (HasRoom cents) (with_more cents)
@@ -129,7 +126,6 @@ pub fn take_used<S: Alter>(
     serial: u32,
     cents: Cents,
 ) -> Result<(), Error>
-    requires { IsInside (state S.Store tx.old.conn.now) }
     ensures same_reference { tx.new.conn.ghost_name ≡ tx.old.conn.ghost_name }
     ensures taken { HasCleanDisk (state S.Store tx.new.conn.now)
         → OnOk result (TurnsWhere (has_serial holder serial) (HasInUse cents) (with_less cents)
@@ -144,7 +140,6 @@ pub fn take_used<S: Alter>(
 /// Empties the table of guarantees of version 1, in a file that is migrated from there: it has no row then, and the
 /// other tables are as they were.
 pub fn empty_guarantees1<S: Alter>(tx: &mut Transaction<'_, S>) -> Result<(), Error>
-    requires { IsInside (state S.Store tx.old.conn.now) }
     ensures same_reference { tx.new.conn.ghost_name ≡ tx.old.conn.ghost_name }
     ensures emptied { HasCleanDisk (state S.Store tx.new.conn.now)
         → OnOk result (EmptiesFirst (state S.Store tx.old.conn.now) (state S.Store tx.new.conn.now)) }

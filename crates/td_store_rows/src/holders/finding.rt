@@ -3,7 +3,6 @@
 ghost use Rattle.std.specs.Prelude.{◌≡◌, IfOk, is_ok};
 ghost use Rattle.sqlite.specs.Held.{state};
 ghost use Rattle.sqlite.specs.State.{HasCleanDisk};
-ghost use Rattle.typed_sql.specs.Reading.{IsInside};
 ghost use Rattle.td_store_rows.specs.StoreReads.{ReadsStore};
 ghost use Rattle.td_store_rows.specs.HolderTable.{IsTheHolder};
 
@@ -22,7 +21,6 @@ pub fn find_holder<S: Alter>(
     tx: &mut Transaction<'_, S>,
     holder: HolderNo,
 ) -> Result<Option<HolderRow>, Error>
-    requires { IsInside (state S.Store tx.old.conn.now) }
     ensures same_reference { tx.new.conn.ghost_name ≡ tx.old.conn.ghost_name }
     ensures found { HasCleanDisk (state S.Store tx.new.conn.now)
         → IfOk result (IsTheHolder holder (state S.Store tx.old.conn.now)) }

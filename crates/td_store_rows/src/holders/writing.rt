@@ -4,7 +4,7 @@ ghost use Rattle.sqlite.specs.Held.{state};
 ghost use Rattle.sqlite.specs.State.{HasCleanDisk, Shows};
 ghost use Rattle.sqlite.specs.Values.{bound};
 ghost use Rattle.td_table_model.specs.Changes.{with_row};
-ghost use Rattle.typed_sql.specs.Reading.{IsInside, StaysInside};
+ghost use Rattle.typed_sql.specs.Reading.{StaysInside};
 ghost use Rattle.td_store_rows.specs.Columns.{holder_cells};
 ghost use Rattle.td_store_rows.specs.HolderTable.{TurnsHolders};
 
@@ -30,7 +30,6 @@ fn columns(row: &HolderRow) -> [ValueRef<'_>; 5]
 
 /// Inserts the row of a holder whose number is new.
 pub fn insert_holder<S: Alter>(tx: &mut Transaction<'_, S>, row: &HolderRow) -> Result<(), Error>
-    requires { IsInside (state S.Store tx.old.conn.now) }
     ensures same_reference { tx.new.conn.ghost_name ≡ tx.old.conn.ghost_name }
     ensures inserted { HasCleanDisk (state S.Store tx.new.conn.now) → OnOk result (TurnsHolders (λ rows. row.now ∷ rows)
         (state S.Store tx.old.conn.now) (state S.Store tx.new.conn.now)) }
@@ -43,7 +42,6 @@ pub fn insert_holder<S: Alter>(tx: &mut Transaction<'_, S>, row: &HolderRow) -> 
 
 /// Sets the row of a holder who is registered. `DatabaseCorrupt`: nobody is registered under this number.
 pub fn set_holder<S: Alter>(tx: &mut Transaction<'_, S>, row: &HolderRow) -> Result<(), Error>
-    requires { IsInside (state S.Store tx.old.conn.now) }
     ensures same_reference { tx.new.conn.ghost_name ≡ tx.old.conn.ghost_name }
     ensures set { HasCleanDisk (state S.Store tx.new.conn.now) → OnOk result (TurnsHolders (map (with_row row.now))
         (state S.Store tx.old.conn.now) (state S.Store tx.new.conn.now)) }

@@ -3,7 +3,6 @@
 ghost use Rattle.std.specs.Prelude.{◌≡◌, true, IfOk, is_ok};
 ghost use Rattle.sqlite.specs.Held.{state};
 ghost use Rattle.sqlite.specs.State.{HasCleanDisk};
-ghost use Rattle.typed_sql.specs.Reading.{IsInside};
 ghost use Rattle.td_store_rows.specs.StoreReads.{ReadsFew, ReadsMore};
 ghost use Rattle.td_store_rows.specs.LineTable.{AreByNumber, AreFewLines, AreLines, is_line_of, is_line_on};
 
@@ -22,7 +21,6 @@ pub fn lines_of<S: Alter>(
     holder: HolderNo,
     serial: u32,
 ) -> Result<Vec<StoredLine>, Error>
-    requires { IsInside (state S.Store tx.old.conn.now) }
     ensures same_reference { tx.new.conn.ghost_name ≡ tx.old.conn.ghost_name }
     ensures found { HasCleanDisk (state S.Store tx.new.conn.now)
         → IfOk result (λ found. AreLines (is_line_of holder serial) (state S.Store tx.old.conn.now) found.items) }
@@ -40,7 +38,6 @@ pub fn lines_on<S: Alter>(
     holder: HolderNo,
     guarantee: u32,
 ) -> Result<Vec<StoredLine>, Error>
-    requires { IsInside (state S.Store tx.old.conn.now) }
     ensures same_reference { tx.new.conn.ghost_name ≡ tx.old.conn.ghost_name }
     ensures found { HasCleanDisk (state S.Store tx.new.conn.now)
         → IfOk result (λ found. AreFewLines (is_line_on holder guarantee) (state S.Store tx.old.conn.now) found.items) }
@@ -54,7 +51,6 @@ pub fn older_lines<S: Alter>(
     alloc: Global,
     tx: &mut Transaction<'_, S>,
 ) -> Result<Vec<StoredLine>, Error>
-    requires { IsInside (state S.Store tx.old.conn.now) }
     ensures same_reference { tx.new.conn.ghost_name ≡ tx.old.conn.ghost_name }
     ensures found { HasCleanDisk (state S.Store tx.new.conn.now)
         → IfOk result (λ found. AreFewLines (λ line. true) (state S.Store tx.old.conn.now) found.items) }

@@ -3,7 +3,7 @@ ghost use Rattle.std.specs.Prelude.{◌≡◌, ◌∷◌, true, OnOk, is_ok};
 ghost use Rattle.sqlite.specs.Held.{state};
 ghost use Rattle.sqlite.specs.State.{HasCleanDisk, Shows};
 ghost use Rattle.sqlite.specs.Values.{bound};
-ghost use Rattle.typed_sql.specs.Reading.{IsInside, StaysInside};
+ghost use Rattle.typed_sql.specs.Reading.{StaysInside};
 ghost use Rattle.td_store_rows.specs.Columns.{line_cells};
 ghost use Rattle.td_store_rows.specs.LineTable.{EmptiesFirstLines, TurnsLines, line_row_of};
 
@@ -29,7 +29,6 @@ fn columns(line: &StoredLine) -> [ValueRef<'static>; 5]
 
 /// Inserts the row of a line, in a file of version 3 or later.
 pub fn insert_line<S: Alter>(tx: &mut Transaction<'_, S>, line: &StoredLine) -> Result<(), Error>
-    requires { IsInside (state S.Store tx.old.conn.now) }
     ensures same_reference { tx.new.conn.ghost_name ≡ tx.old.conn.ghost_name }
     ensures inserted { HasCleanDisk (state S.Store tx.new.conn.now)
         → OnOk result (TurnsLines (λ rows. line_row_of line.now ∷ rows)
@@ -44,7 +43,6 @@ pub fn insert_line<S: Alter>(tx: &mut Transaction<'_, S>, line: &StoredLine) -> 
 /// Empties the table of lines of the versions below 3, in a file that is migrated from there: it has no row then, and the
 /// other tables are as they were.
 pub fn empty_lines1<S: Alter>(tx: &mut Transaction<'_, S>) -> Result<(), Error>
-    requires { IsInside (state S.Store tx.old.conn.now) }
     ensures same_reference { tx.new.conn.ghost_name ≡ tx.old.conn.ghost_name }
     ensures emptied { HasCleanDisk (state S.Store tx.new.conn.now)
         → OnOk result (EmptiesFirstLines (state S.Store tx.old.conn.now) (state S.Store tx.new.conn.now)) }

@@ -3,7 +3,7 @@ ghost use Rattle.std.specs.Prelude.{◌≡◌, [], ◌∷◌, map, true, OnOk, i
 ghost use Rattle.sqlite.specs.Held.{state};
 ghost use Rattle.sqlite.specs.State.{HasCleanDisk, Shows};
 ghost use Rattle.sqlite.specs.Values.{bound};
-ghost use Rattle.typed_sql.specs.Reading.{IsInside, StaysInside};
+ghost use Rattle.typed_sql.specs.Reading.{StaysInside};
 ghost use Rattle.td_store_rows.specs.Columns.{meta_cells, meta_row};
 ghost use Rattle.typed_sql.specs.Values.{number_value};
 ghost use Rattle.td_store_rows.specs.MetaTable.{TurnsMeta, with_version};
@@ -35,7 +35,6 @@ pub fn insert_meta<S: Alter>(
     version: u32,
     country: Country,
 ) -> Result<(), Error>
-    requires { IsInside (state S.Store tx.old.conn.now) }
     ensures same_reference { tx.new.conn.ghost_name ≡ tx.old.conn.ghost_name }
     ensures inserted { HasCleanDisk (state S.Store tx.new.conn.now)
         → OnOk result (TurnsMeta (λ rows. meta_row version country ∷ rows)
@@ -49,7 +48,6 @@ pub fn insert_meta<S: Alter>(
 
 /// Sets the version of the tables in the office's own row; the country stays. `DatabaseCorrupt`: there is no such row.
 pub fn set_version<S: Alter>(tx: &mut Transaction<'_, S>, version: u32) -> Result<(), Error>
-    requires { IsInside (state S.Store tx.old.conn.now) }
     ensures same_reference { tx.new.conn.ghost_name ≡ tx.old.conn.ghost_name }
     ensures set { HasCleanDisk (state S.Store tx.new.conn.now)
         → OnOk result (TurnsMeta (map (with_version version)) (state S.Store tx.old.conn.now) (state S.Store tx.new.conn.now)) }

@@ -6,7 +6,6 @@ ghost use Rattle.sqlite.specs.State.{HasCleanDisk};
 ghost use Rattle.sqlite.specs.Values.{bound};
 ghost use Rattle.sqlite_value.specs.declared.value.Value.TheVariants.{Text};
 ghost use Rattle.typed_sql.specs.Values.{number_value};
-ghost use Rattle.typed_sql.specs.Reading.{IsInside};
 ghost use Rattle.td_store_rows.specs.StoreReads.{ReadsStore};
 ghost use Rattle.td_store_rows.specs.MovementTable.{AreBySerial, AreListedBySerial, AreMovements, AreSerialsInOrder, AreSerialsOf, IsFirstMovement, IsTheMovement, has_lrn, has_mrn, counts_for};
 ghost use Rattle.td_store_rows.specs.Places.{is_above, is_after, is_within};
@@ -47,7 +46,6 @@ pub fn find_by_mrn<S: Alter>(
     serial: u32,
     mrn: &Mrn,
 ) -> Result<Option<StoredMovement>, Error>
-    requires { IsInside (state S.Store tx.old.conn.now) }
     ensures same_reference { tx.new.conn.ghost_name ≡ tx.old.conn.ghost_name }
     ensures found { HasCleanDisk (state S.Store tx.new.conn.now)
         → IfOk result (IsTheMovement (has_mrn holder serial mrn.now) (state S.Store tx.old.conn.now)) }
@@ -63,7 +61,6 @@ pub fn find_by_lrn<S: Alter>(
     holder: HolderNo,
     lrn: &Lrn,
 ) -> Result<Option<StoredMovement>, Error>
-    requires { IsInside (state S.Store tx.old.conn.now) }
     ensures same_reference { tx.new.conn.ghost_name ≡ tx.old.conn.ghost_name }
     ensures found { HasCleanDisk (state S.Store tx.new.conn.now)
         → IfOk result (IsTheMovement (has_lrn holder lrn.now) (state S.Store tx.old.conn.now)) }
@@ -80,7 +77,6 @@ pub fn movements_within<S: Alter>(
     first: u32,
     end: u32,
 ) -> Result<Vec<StoredMovement>, Error>
-    requires { IsInside (state S.Store tx.old.conn.now) }
     ensures same_reference { tx.new.conn.ghost_name ≡ tx.old.conn.ghost_name }
     ensures found { HasCleanDisk (state S.Store tx.new.conn.now)
         → IfOk result (λ found. AreMovements (is_within holder first end) (state S.Store tx.old.conn.now) found.items) }
@@ -100,7 +96,6 @@ pub fn listed_within<S: Alter>(
     first: u32,
     end: u32,
 ) -> Result<Vec<MovementInList>, Error>
-    requires { IsInside (state S.Store tx.old.conn.now) }
     ensures same_reference { tx.new.conn.ghost_name ≡ tx.old.conn.ghost_name }
     ensures order { HasCleanDisk (state S.Store tx.new.conn.now)
         → IfOk result (λ found. AreListedBySerial (is_within holder first end) (state S.Store tx.old.conn.now) found.items) }
@@ -117,7 +112,6 @@ pub fn next_movement_of<S: Alter>(
     holder: u32,
     serial: u32,
 ) -> Result<Option<StoredMovement>, Error>
-    requires { IsInside (state S.Store tx.old.conn.now) }
     ensures same_reference { tx.new.conn.ghost_name ≡ tx.old.conn.ghost_name }
     ensures found { HasCleanDisk (state S.Store tx.new.conn.now)
         → IfOk result (IsFirstMovement (is_after holder serial) (state S.Store tx.old.conn.now)) }
@@ -133,7 +127,6 @@ pub fn first_movement_above<S: Alter>(
     tx: &mut Transaction<'_, S>,
     holder: u32,
 ) -> Result<Option<StoredMovement>, Error>
-    requires { IsInside (state S.Store tx.old.conn.now) }
     ensures same_reference { tx.new.conn.ghost_name ≡ tx.old.conn.ghost_name }
     ensures found { HasCleanDisk (state S.Store tx.new.conn.now)
         → IfOk result (IsFirstMovement (is_above holder) (state S.Store tx.old.conn.now)) }
@@ -148,7 +141,6 @@ pub fn counting_serials<S: Alter>(
     tx: &mut Transaction<'_, S>,
     holder: HolderNo,
 ) -> Result<Vec<MovementSerial>, Error>
-    requires { IsInside (state S.Store tx.old.conn.now) }
     ensures same_reference { tx.new.conn.ghost_name ≡ tx.old.conn.ghost_name }
     ensures found { HasCleanDisk (state S.Store tx.new.conn.now)
         → IfOk result (λ found. AreSerialsOf (counts_for holder) (state S.Store tx.old.conn.now) found.items) }

@@ -5,7 +5,7 @@ ghost use Rattle.sqlite.specs.State.{HasCleanDisk, Shows};
 ghost use Rattle.sqlite.specs.Values.{bound};
 ghost use Rattle.td_movement.specs.States.{state_name};
 ghost use Rattle.td_table_model.specs.Tables.{movement_row};
-ghost use Rattle.typed_sql.specs.Reading.{IsInside, StaysInside};
+ghost use Rattle.typed_sql.specs.Reading.{StaysInside};
 ghost use Rattle.td_store_rows.specs.Columns.{movement_cells};
 ghost use Rattle.td_store_rows.specs.MovementTable.{TurnsMovements, has_mrn, with_new_status, status_values};
 
@@ -59,7 +59,6 @@ pub fn insert_movement<S: Alter>(
     serial: u32,
     movement: &Movement,
 ) -> Result<(), Error>
-    requires { IsInside (state S.Store tx.old.conn.now) }
     ensures same_reference { tx.new.conn.ghost_name ≡ tx.old.conn.ghost_name }
     ensures inserted { HasCleanDisk (state S.Store tx.new.conn.now)
         → OnOk result (TurnsMovements (λ rows. movement_row holder (serial, movement.now) ∷ rows)
@@ -79,7 +78,6 @@ pub fn set_status<S: Alter>(
     serial: u32,
     status: &NewStatus,
 ) -> Result<(), Error>
-    requires { IsInside (state S.Store tx.old.conn.now) }
     ensures same_reference { tx.new.conn.ghost_name ≡ tx.old.conn.ghost_name }
     ensures set { HasCleanDisk (state S.Store tx.new.conn.now) → OnOk result (TurnsMovements
         (map (λ m. if has_mrn holder serial status.now.mrn m then with_new_status status.now m else m))

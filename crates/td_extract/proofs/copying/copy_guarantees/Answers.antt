@@ -16,7 +16,7 @@ parts-init g c = (
   refl,
   omega arith,
   nothing_copied (guarantees_within c.args.holder 0 0) (state g.S.Store c.args.from.now.conn.now) (no_guarantees (state g.S.Store c.args.from.now.conn.now) c.args.holder)
-      (state g.T.Store c.args.to.now.conn.now) c.requires.reading c.requires.writing,
+      (state g.T.Store c.args.to.now.conn.now),
 )
 
 -- one range more

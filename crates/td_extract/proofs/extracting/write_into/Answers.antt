@@ -1,4 +1,4 @@
-use Rattle.std.proofs.Common.{rules, true, false, ◌≡◌, ◌∙◌, [], ap, subst, sym, arith}
+use Rattle.std.proofs.Common.{rules, true, false, ◌≡◌, ◌∙◌, [], ap, refl, subst, sym, arith}
 use Rattle.std.specs.Prelude.{OnOk, IsTrue}
 use Rattle.sqlite.specs.Effect.{Database}
 use Rattle.sqlite.specs.Held.{state}
@@ -66,7 +66,7 @@ returns-clause-crash g c =
     let clean_m : HasCleanDisk m = omega (arith, clean, ended.clean) in
     let clean_b : HasCleanDisk b = omega (arith, clean_m, c.see_open.ensures.within.survives.clean) in
     let seen : IsUnchanged b m = c.in_ok-see_open.ensures.still clean_m in (
-      (written.kept clean_m).was_open seen.0.is_open,
+      (written.kept clean_m refl).was_open seen.0.is_open,
       λ clean_from content holds at none.
           let wrote : Extracts c.args.country c.args.first c.args.last s a b =
           rw c.transaction-tx.ensures.begun at (c.in_ok-write_from.ensures.written clean_from clean_b) in

@@ -17,8 +17,7 @@ holders-init g c = (
   refl,
   omega (arith, c.requires.begins),
   λ far. omega (arith, c.requires.begins),
-  nothing_copied (of_holders c.args.first (c.args.first - 1)) a (no_holders a c.args.first (c.args.first - 1) (omega (arith, c.requires.begins))) (state g.T.Store c.args.to.now.conn.now)
-      c.requires.reading c.requires.writing,
+  nothing_copied (of_holders c.args.first (c.args.first - 1)) a (no_holders a c.args.first (c.args.first - 1) (omega (arith, c.requires.begins))) (state g.T.Store c.args.to.now.conn.now),
 )
   where
     a : State

@@ -12,7 +12,7 @@ use Rattle.td_extract.proofs.Rows.{AreSame, HasPut, both, nothing_put, put_then}
 use Rattle.td_extract.proofs.putting.put_codes.Goals as goal
 
 pub rows-init : goal.rows-init
-rows-init g c = (refl, nothing_put (state g.T.Store c.args.tx.now.conn.now) c.requires)
+rows-init g c = (refl, nothing_put (state g.T.Store c.args.tx.now.conn.now))
 
 pub rows-preserved : goal.rows-preserved
 rows-preserved g c = (c.insert_code.ensures.same_reference ∙ c.rows.invariant.0, put_then before one after same a b d c.rows.invariant.1 inserted)

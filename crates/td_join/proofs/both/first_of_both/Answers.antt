@@ -11,7 +11,7 @@ pub holders-init : goal.holders-init
 holders-init g c = (
   refl,
   refl,
-  met_nobody (state g.S.Store c.args.from.now.conn.now) (state g.T.Store c.args.to.now.conn.now) c.requires.reading c.requires.writing,
+  met_nobody (state g.S.Store c.args.from.now.conn.now) (state g.T.Store c.args.to.now.conn.now),
 )
 
 pub returns-in_err-other-clause-looks : goal.returns-in_err-other-clause-looks

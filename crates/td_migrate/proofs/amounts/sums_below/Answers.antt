@@ -11,7 +11,7 @@ pub parts-init : goal.parts-init
 parts-init g c = (
   omega arith,
   refl,
-  reads_none c.requires.inside,
+  reads_none,
   c.in_ok-totals.ensures.all,
   λ clean. begins c.args.holder c.args.serials.now (state g.S.Store c.args.tx.now.conn.now) c.in_ok-totals.totals c.in_ok-totals.ensures.none,
 )

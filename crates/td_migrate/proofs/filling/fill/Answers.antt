@@ -17,7 +17,7 @@ use Rattle.td_migrate.proofs.filling.fill.Goals as goal
 pub holders-init : goal.holders-init
 holders-init g c = (
   refl,
-  nothing_put IsFirst kept_typing KeepTheRules (upto IsFirst guarantee_typing kept_typing first_beside with_its_use first_still 0) (state g.S.Store c.args.tx.now.conn.now) c.requires
+  nothing_put IsFirst kept_typing KeepTheRules (upto IsFirst guarantee_typing kept_typing first_beside with_its_use first_still 0) (state g.S.Store c.args.tx.now.conn.now)
       (λ l at x keep. ap (map (with_its_use x)) (first_none l x keep)),
 )
 

@@ -17,9 +17,9 @@ pub parts-init : goal.parts-init
 parts-init g c = (
   omega arith,
   refl,
-  stays_nothing c.requires,
+  stays_nothing,
   λ sums are. nothing_put IsFirst kept_typing AreGuaranteesTyped (below IsFirst guarantee_typing kept_typing first_beside (with_sum sums) c.args.holder 0)
-      (state g.S.Store c.args.tx.now.conn.now) c.requires (λ l at x typed. ap (map (with_sum sums)) (range_none c.args.holder (typed_rows (guarantee_typing l) x))),
+      (state g.S.Store c.args.tx.now.conn.now) (λ l at x typed. ap (map (with_sum sums)) (range_none c.args.holder (typed_rows (guarantee_typing l) x))),
 )
 
 pub parts-preserved : goal.parts-preserved

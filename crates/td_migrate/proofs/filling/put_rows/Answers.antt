@@ -14,8 +14,8 @@ use Rattle.td_migrate.proofs.filling.put_rows.Goals as goal
 pub rows-init : goal.rows-init
 rows-init g c = (
   refl,
-  stays_nothing c.requires,
-  λ sums are. nothing_put IsFirst kept_typing IsAnyFile (λ layout trees. []) (state g.S.Store c.args.tx.now.conn.now) c.requires (λ l at x any. refl),
+  stays_nothing,
+  λ sums are. nothing_put IsFirst kept_typing IsAnyFile (λ layout trees. []) (state g.S.Store c.args.tx.now.conn.now) (λ l at x any. refl),
 )
 
 pub rows-preserved : goal.rows-preserved

@@ -37,7 +37,7 @@ still l at x y others rows = refl
 pub holders-init : goal.holders-init
 holders-init g c = (
   refl,
-  nothing_put At line_typing KeepTheRules (upto At line_typing line_typing lines_beside as_it_is still 0) (state g.S.Store c.args.tx.now.conn.now) c.requires
+  nothing_put At line_typing KeepTheRules (upto At line_typing line_typing lines_beside as_it_is still 0) (state g.S.Store c.args.tx.now.conn.now)
       (λ l at x keep. ap (map (as_it_is x)) (lines_none l x keep)),
 )
 

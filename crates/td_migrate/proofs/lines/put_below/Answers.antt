@@ -27,7 +27,7 @@ parts-init g c = (
   omega arith,
   refl,
   nothing_put (IsOfVersion version_with_amounts) line_typing AreLinesTyped (below (IsOfVersion version_with_amounts) line_typing line_typing lines_beside as_it_is c.args.holder 0)
-      (state g.S.Store c.args.tx.now.conn.now) c.requires (λ l at x typed. ap (map as_it_is) (range_none c.args.holder (typed_rows (line_typing l) x))),
+      (state g.S.Store c.args.tx.now.conn.now) (λ l at x typed. ap (map as_it_is) (range_none c.args.holder (typed_rows (line_typing l) x))),
 )
 
 pub parts-preserved : goal.parts-preserved

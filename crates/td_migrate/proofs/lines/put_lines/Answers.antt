@@ -15,7 +15,7 @@ use Rattle.td_migrate.proofs.lines.put_lines.Goals as goal
 
 pub lines-init : goal.lines-init
 lines-init g c =
-    (refl, nothing_put (IsOfVersion version_with_amounts) line_typing IsAnyFile (λ l trees. []) (state g.S.Store c.args.tx.now.conn.now) c.requires (λ l at x any. refl))
+    (refl, nothing_put (IsOfVersion version_with_amounts) line_typing IsAnyFile (λ l trees. []) (state g.S.Store c.args.tx.now.conn.now) (λ l at x any. refl))
 
 pub lines-preserved : goal.lines-preserved
 lines-preserved g c = (c.insert_line.ensures.same_reference ∙ c.lines.invariant.0, more)

@@ -24,7 +24,7 @@ use Rattle.td_store_audit.proofs.amounts.is_holder_kept.Goals as goal
 pub parts-init : goal.parts-init
 parts-init g c = (
   refl,
-  record { still = λ clean well l own. none_read (state g.S.Store c.args.tx.now.conn.now); within = stays_nothing c.requires },
+  record { still = λ clean well l own. none_read (state g.S.Store c.args.tx.now.conn.now); within = stays_nothing },
   omega arith,
   λ clean layout own has is.
       let t = tables_in layout (state g.S.Store c.args.tx.now.conn.now).now.trees in

@@ -22,7 +22,7 @@ use Rattle.td_store_audit.proofs.guarantees.has_guarantees_below.Goals as goal
 pub parts-init : goal.parts-init
 parts-init g c = (
   refl,
-  record { still = λ clean well l own. none_read (state g.S.Store c.args.tx.now.conn.now); within = stays_nothing c.requires },
+  record { still = λ clean well l own. none_read (state g.S.Store c.args.tx.now.conn.now); within = stays_nothing },
   omega arith,
   (
     [],

@@ -9,7 +9,7 @@ use Rattle.td_store_audit.proofs.RangesTold.{added_below, begins, broken_in, mor
 use Rattle.td_store_audit.proofs.lines.totals_below.Goals as goal
 
 pub parts-init : goal.parts-init
-parts-init g c = (omega arith, refl, record { still = λ clean well l own. none_read (state g.S.Store c.args.tx.now.conn.now); within = stays_nothing c.requires }, c.in_ok-totals.ensures.all, λ clean. begins c.args.version c.args.guarantees c.args.movements.now (state g.S.Store c.args.tx.now.conn.now) c.in_ok-totals.totals c.in_ok-totals.ensures.none)
+parts-init g c = (omega arith, refl, record { still = λ clean well l own. none_read (state g.S.Store c.args.tx.now.conn.now); within = stays_nothing }, c.in_ok-totals.ensures.all, λ clean. begins c.args.version c.args.guarantees c.args.movements.now (state g.S.Store c.args.tx.now.conn.now) c.in_ok-totals.totals c.in_ok-totals.ensures.none)
 
 -- the lines of the next movements are in their places, and added
 pub parts-preserved : goal.parts-preserved

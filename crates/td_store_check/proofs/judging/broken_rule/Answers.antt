@@ -1,7 +1,8 @@
 use Rattle.std.proofs.Common.{◌≡◌, arith, rules, sym, true}
 use Rattle.std.specs.Prelude.{IsTrue}
 use Rattle.sqlite.specs.Held.{state}
-use Rattle.sqlite.specs.State.{HasCleanDisk, KeepsCommit, State, Survives}
+use Rattle.sqlite.specs.State.{HasCleanDisk, State, Survives}
+use Rattle.typed_sql.specs.Reading.{StaysInside}
 use Rattle.td_store_rows.specs.StoreReads.{IsOfVersion, LeavesVersion, ReadsVersion}
 use Rattle.td_store_rows.proofs.StoreReads.{seen_still}
 use Rattle.typed_sql.proofs.OnlyRead.{one_read, stays_on}
@@ -17,11 +18,10 @@ returns-in_err-commit-clause-looks g c =
     let m : State = state g.S.Store c.see_open.new.tx.conn.now in
     let first = c.in_ok-broken.ensures in
     let still : HasCleanDisk l → LeavesVersion c.version_in.result a l = rw c.transaction-tx.ensures.begun at first.still in
-    let kept : HasCleanDisk l → KeepsCommit a l = rw c.transaction-tx.ensures.begun at first.kept in
-    let survives : Survives a l (λ _. ⊥) = rw c.transaction-tx.ensures.begun at first.survives in
+    let within : StaysInside true a l = rw c.transaction-tx.ensures.begun at first.within in
     let reads : ReadsVersion c.version_in.result true a l = record {
       still = λ clean well layout at. one_read a l (still clean layout at);
-      within = record { inside = λ clean well. first.inside clean; kept = kept; survives = survives };
+      within = within;
     } in
     let seen = seen_still g.S.Store (IsOfVersion c.version_in.result) c.args.conn.now l m
     (λ clean. (c.args.layout, sym c.version_in.ensures, λ _. c.requires.tables clean)) reads
@@ -38,11 +38,10 @@ returns-clause-looks g c =
     let m : State = state g.S.Store c.see_open.new.tx.conn.now in
     let first = c.in_ok-broken.ensures in
     let still : HasCleanDisk l → LeavesVersion c.version_in.result a l = rw c.transaction-tx.ensures.begun at first.still in
-    let kept : HasCleanDisk l → KeepsCommit a l = rw c.transaction-tx.ensures.begun at first.kept in
-    let survives : Survives a l (λ _. ⊥) = rw c.transaction-tx.ensures.begun at first.survives in
+    let within : StaysInside true a l = rw c.transaction-tx.ensures.begun at first.within in
     let reads : ReadsVersion c.version_in.result true a l = record {
       still = λ clean well layout at. one_read a l (still clean layout at);
-      within = record { inside = λ clean well. first.inside clean; kept = kept; survives = survives };
+      within = within;
     } in
     let seen = seen_still g.S.Store (IsOfVersion c.version_in.result) c.args.conn.now l m
     (λ clean. (c.args.layout, sym c.version_in.ensures, λ _. c.requires.tables clean)) reads
@@ -60,7 +59,7 @@ returns-clause-told g c clean =
     let ended : Survives m e (λ db. db ≡ m.now.trees) = search rules in
     let clean_m : HasCleanDisk m = omega (arith, clean, ended.clean) in
     let clean_l : HasCleanDisk l = omega (arith, clean_m, c.in_ok-see_open.ensures.within.survives.clean) in
-    let survives : Survives a l (λ _. ⊥) = rw c.transaction-tx.ensures.begun at c.in_ok-broken.ensures.survives in
+    let survives : Survives a l (λ _. ⊥) = rw c.transaction-tx.ensures.begun at c.in_ok-broken.ensures.within.survives in
     let clean_o : HasCleanDisk o = omega (arith, clean_l, survives.clean) in
     let left : HasCleanDisk l → LeavesVersion c.version_in.result a l = rw c.transaction-tx.ensures.begun at c.in_ok-broken.ensures.still in
     let is_open : IsTrue o.is_open = (left clean_l c.args.layout (sym c.version_in.ensures) (λ _. c.requires.tables clean_o)).0.was_open in

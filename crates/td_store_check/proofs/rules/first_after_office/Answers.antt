@@ -18,7 +18,7 @@ use Rattle.td_store_check.proofs.rules.first_after_office.Goals as goal
 pub holders-init : goal.holders-init
 holders-init g c = (
   refl,
-  reads_none c.requires,
+  reads_none,
   λ clean layout own has office.
       walk_begins c.args.country c.args.readable layout (state g.S.Store c.args.tx.now.conn.now).now.trees office.kept c.first_unread-least.result c.first_unread-least.ensures,
 )

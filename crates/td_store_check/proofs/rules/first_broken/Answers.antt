@@ -4,7 +4,8 @@ use Rattle.sqlite.specs.State.{State, HasCleanDisk}
 use Rattle.td_schema.specs.declared.layout.Layout.{Layout}
 use Rattle.td_store_rows.specs.StoreReads.{IsOfVersion}
 use Rattle.td_store_audit.specs.Broken.{HasOffice, TellsBroken, TellsCountry}
-use Rattle.td_store_audit.proofs.Reading.{any_read, inside_ok, more_read, so_before, still_ok}
+use Rattle.td_store_audit.proofs.Reading.{any_read, more_read, so_before, still_ok}
+use Rattle.typed_sql.proofs.OnlyRead.{stays_on}
 use Rattle.typed_sql.proofs.Leaving.{if_both, on_ok}
 use Rattle.td_store_check.proofs.rules.first_broken.Goals as goal
 
@@ -51,5 +52,5 @@ returns-clause-still g c clean =
     clean_b : HasCleanDisk b
     clean_b = omega (arith, clean, c.first_after_office.ensures.reads.within.survives.clean)
 
-pub returns-clause-inside : goal.returns-clause-inside
-returns-clause-inside g c = inside_ok c.first_after_office.result c.first_after_office.ensures.reads.within
+pub returns-clause-within : goal.returns-clause-within
+returns-clause-within g c = stays_on c.in_ok-country.ensures.reads.within c.first_after_office.ensures.reads.within

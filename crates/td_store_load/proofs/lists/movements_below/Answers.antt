@@ -13,7 +13,7 @@ use Rattle.td_store_load.proofs.lists.movements_below.Goals as goal
 pub parts-init : goal.parts-init
 parts-init g c = (
   refl,
-  record { still = λ clean well l own. none_read (state g.S.Store c.args.tx.now.conn.now); within = stays_nothing c.requires },
+  record { still = λ clean well l own. none_read (state g.S.Store c.args.tx.now.conn.now); within = stays_nothing },
   omega arith,
   λ clean content holds. c.new-movements.ensures.items ∙ none_below_first c.args.holder (state g.S.Store c.args.tx.now.conn.now) content holds,
 )

@@ -14,7 +14,7 @@ use Rattle.td_store_load.proofs.ReadOnce.{found_is_some, range_has, range_kept}
 use Rattle.td_store_load.proofs.releases.kept_near.Goals as goal
 
 pub returns-then-is_some-clause-reads : goal.returns-then-is_some-clause-reads
-returns-then-is_some-clause-reads g c = record { still = λ clean well l own. none_read (state g.S.Store c.args.tx.now.conn.now); within = stays_nothing c.requires }
+returns-then-is_some-clause-reads g c = record { still = λ clean well l own. none_read (state g.S.Store c.args.tx.now.conn.now); within = stays_nothing }
 
 -- the guarantee was found among those that were read last
 pub returns-then-is_some-clause-found : goal.returns-then-is_some-clause-found

@@ -8,7 +8,7 @@ use Rattle.td_store_write.proofs.Following.{HasFollowed, follow_next, nothing_fo
 use Rattle.td_store_write.proofs.amounts.change_by_lines.Goals as goal
 
 pub lines-init : goal.lines-init
-lines-init g c = (refl, nothing_followed c.args.holder c.args.status c.args.lines.now (state g.S.Store c.args.tx.now.conn.now) c.requires)
+lines-init g c = (refl, nothing_followed c.args.holder c.args.status c.args.lines.now (state g.S.Store c.args.tx.now.conn.now))
 
 pub lines-preserved : goal.lines-preserved
 lines-preserved g c = (c.change_one.ensures.same_reference ∙ c.lines.invariant.0, more)

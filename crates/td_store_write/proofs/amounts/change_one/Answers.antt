@@ -27,5 +27,5 @@ returns-in_default g c = record {
       (change_at c.args.status c.args.holder c.args.serial c.args.cents)
       (change_left c.args.status (other_state c.args.status c.in_default.not-Released c.in_default.not-WrittenOff) c.args.holder c.args.serial c.args.cents)
       (state g.S.Store c.args.tx.now.conn.now);
-  within = stays_nothing c.requires;
+  within = stays_nothing;
 }

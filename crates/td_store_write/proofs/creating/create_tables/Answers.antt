@@ -1,4 +1,4 @@
-use Rattle.std.proofs.Common.{rules, true, false, ◌≡◌, ◌∙◌, [], ◌∷◌, ap, subst, sym, arith}
+use Rattle.std.proofs.Common.{rules, true, false, ◌≡◌, ◌∙◌, [], ◌∷◌, ap, refl, subst, sym, arith}
 use Rattle.std.specs.Prelude.{OnOk, IsTrue}
 use Rattle.sqlite.specs.Effect.{Database}
 use Rattle.sqlite.specs.Held.{state}
@@ -59,7 +59,7 @@ returns-clause-crash g c =
     let made : IsEmptyOf no_schema a.now → IsEmptyOf desk_schema b.now =
     rw c.transaction-tx.ensures.begun at (c.in_ok-make_tables.ensures.made clean_b) in
     let seen : IsUnchanged d m = c.in_ok-see_open.ensures.still clean_m in (
-      (written.kept clean_m).was_open seen.0.is_open,
+      (written.kept clean_m refl).was_open seen.0.is_open,
       λ none.
           let P : Trees → Type 0 = AreTreesOf (empty_content c.args.country) in
           subst P (sym (is ∙ ap (λ (x : Database). x.trees) seen.0.now_is))

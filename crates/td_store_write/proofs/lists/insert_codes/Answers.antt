@@ -9,7 +9,7 @@ use Rattle.td_store_write.proofs.Written.{HasWritten, next_put, nothing_written,
 use Rattle.td_store_write.proofs.lists.insert_codes.Goals as goal
 
 pub codes-init : goal.codes-init
-codes-init g c = (refl, nothing_written (λ t. record t { codes = map (code_row c.args.holder c.args.serial) (take 0 c.args.codes.now) ++ t.codes }) same_rows (state g.S.Store c.args.tx.now.conn.now) c.requires)
+codes-init g c = (refl, nothing_written (λ t. record t { codes = map (code_row c.args.holder c.args.serial) (take 0 c.args.codes.now) ++ t.codes }) same_rows (state g.S.Store c.args.tx.now.conn.now))
 
 pub codes-preserved : goal.codes-preserved
 codes-preserved g c = (c.insert_code.ensures.same_reference ∙ c.codes.invariant.0, more)

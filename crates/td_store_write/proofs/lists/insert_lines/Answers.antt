@@ -12,7 +12,7 @@ use Rattle.td_store_write.proofs.Written.{HasWritten, next_put, nothing_written,
 use Rattle.td_store_write.proofs.lists.insert_lines.Goals as goal
 
 pub lines-init : goal.lines-init
-lines-init g c = (refl, nothing_written (λ t. record t { lines = map (line_row c.args.country c.args.holder c.args.serial) (take 0 (numbered 0 c.args.lines.now)) ++ t.lines }) same_rows (state g.S.Store c.args.tx.now.conn.now) c.requires)
+lines-init g c = (refl, nothing_written (λ t. record t { lines = map (line_row c.args.country c.args.holder c.args.serial) (take 0 (numbered 0 c.args.lines.now)) ++ t.lines }) same_rows (state g.S.Store c.args.tx.now.conn.now))
 
 pub lines-preserved : goal.lines-preserved
 lines-preserved g c = (c.insert_line.ensures.same_reference ∙ c.lines.invariant.0, more)

@@ -1,5 +1,5 @@
-use Rattle.std.proofs.Common.{arith, ◌⊎◌, inl, inr, Err, IfErr, IsTrue, List, Ok, Result, Vec}
-use Rattle.sqlite.specs.State.{HasCleanDisk, FailsToQuery, IsTooLate, KeepsCommit, Shown, State}
+use Rattle.std.proofs.Common.{◌⊎◌, inl, inr, Err, IfErr, IsTrue, List, Ok, Result, Vec}
+use Rattle.sqlite.specs.State.{FailsToQuery, IsTooLate, KeepsCommit, Shown, State}
 use Rattle.std.proofs.lemmas.Bool.{false≢true}
 use Rattle.std.specs.Prelude.{IfOk, OnOk, is_ok}
 use Rattle.std.specs.declared.alloc.Global.{Global}
@@ -43,8 +43,8 @@ returns-clause-still g c clean = by_result c.query_all.result (c.query_all.ensur
 
 pub returns-clause-within : goal.returns-clause-within
 returns-clause-within g c = record {
-  inside = λ clean well. goes_on c.query_all.result (c.requires (early clean)) (c.query_all.ensures.ok clean) well;
-  kept = λ clean. keeps c.query_all.result (c.requires (early clean)) (c.query_all.ensures.ok clean) (c.query_all.ensures.err clean);
+  inside = λ clean well was. goes_on c.query_all.result was (c.query_all.ensures.ok clean) well;
+  kept = λ clean was. keeps c.query_all.result was (c.query_all.ensures.ok clean) (c.query_all.ensures.err clean);
   survives = c.query_all.ensures.survives;
 }
   where
@@ -53,9 +53,6 @@ returns-clause-within g c = record {
 
     new : State
     new = state g.S.Store c.query_all.new.self.conn.now
-
-    early : HasCleanDisk new → HasCleanDisk old
-    early clean = omega (arith, clean, c.query_all.ensures.survives.clean)
 
     goes_on : (r : Result (Vec (List Value) Global) Error) → IsTrue old.in_transaction
         → IfOk r (λ rows. Shown c.args.text.now (bound c.args.values.now) old new rows.items)

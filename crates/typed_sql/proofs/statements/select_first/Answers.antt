@@ -1,4 +1,4 @@
-use Rattle.std.proofs.Common.{arith, refl}
+use Rattle.std.proofs.Common.{refl}
 use Rattle.sqlite.specs.Held.{state}
 use Rattle.sqlite.specs.Values.{bound}
 use Rattle.typed_sql.proofs.First.{failed_within, none_first, none_reads, none_within, row_first, row_reads, row_within}
@@ -14,8 +14,7 @@ returns-in-Ok-clause-still g c clean =
 
 pub returns-in-Ok-clause-within : goal.returns-in-Ok-clause-within
 returns-in-Ok-clause-within g c =
-    row_within c.args.text.now (bound c.args.values.now) _ _ c.in-Ok.row c.in-Ok.ensures.survives
-    (λ clean. c.requires (omega (arith, clean, c.in-Ok.ensures.survives.clean))) c.in-Ok.ensures.row
+    row_within c.args.text.now (bound c.args.values.now) _ _ c.in-Ok.row c.in-Ok.ensures.survives c.in-Ok.ensures.row
 
 pub returns-in-Err-QueryReturnedNoRows-clause-selected : goal.returns-in-Err-QueryReturnedNoRows-clause-selected
 returns-in-Err-QueryReturnedNoRows-clause-selected g c clean =
@@ -30,10 +29,8 @@ returns-in-Err-QueryReturnedNoRows-clause-still g c clean =
 pub returns-in-Err-QueryReturnedNoRows-clause-within : goal.returns-in-Err-QueryReturnedNoRows-clause-within
 returns-in-Err-QueryReturnedNoRows-clause-within g c =
     none_within c.args.text.now (bound c.args.values.now) _ _ c.in-Err-QueryReturnedNoRows.ensures.survives
-    (λ clean. c.requires (omega (arith, clean, c.in-Err-QueryReturnedNoRows.ensures.survives.clean)))
     (rw c.in-Err-QueryReturnedNoRows.field-0-is at c.in-Err-QueryReturnedNoRows.ensures.row)
 
 pub returns-in-Err-clause-within : goal.returns-in-Err-clause-within
 returns-in-Err-clause-within g c =
-    failed_within c.args.text.now (bound c.args.values.now) _ _ c.in-Err.error c.in-Err.ensures.survives
-    (λ clean. c.requires (omega (arith, clean, c.in-Err.ensures.survives.clean))) c.in-Err.ensures.row
+    failed_within c.args.text.now (bound c.args.values.now) _ _ c.in-Err.error c.in-Err.ensures.survives c.in-Err.ensures.row
