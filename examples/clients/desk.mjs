@@ -11,16 +11,18 @@ export class Refused extends Error {
   }
 }
 
-// A desk by its URL. Behind https `tls` may have cert, key and ca, as https.request takes them.
+// A desk by its URL, of which a path in front of the desk's is kept. Behind https `tls` may have cert, key and ca, as
+// https.request takes them.
 export class Desk {
   constructor(url, tls = {}) {
-    Object.assign(this, { url, tls, http: url.startsWith("https:") ? https : http });
+    if (!/^https?:$/.test(new URL(url).protocol)) throw new Error(`${url}: it is no URL of http or https`);
+    Object.assign(this, { url: url.replace(/\/+$/, ""), tls, http: url.startsWith("https:") ? https : http });
   }
 
   askOnce(method, path, body) {
     return new Promise((done, failed) => {
       const headers = { Connection: "close", "Content-Type": "application/json" };
-      const asked = this.http.request(new URL(path, this.url), { method, headers, timeout: 30000, agent: false, ...this.tls }, reply => {
+      const asked = this.http.request(new URL(this.url + path), { method, headers, timeout: 30000, agent: false, ...this.tls }, reply => {
         let text = "";
         reply.setEncoding("utf8").on("data", piece => { text += piece; }).on("error", failed).on("end", () => {
           const told = reply.headers["content-type"] === "application/json" ? JSON.parse(text) : {};

@@ -14,12 +14,14 @@ class Refused(Exception):
 
 
 class Desk:
-    """A desk by its URL. Behind https there may be a client's certificate (a file with its key), and the file of those who
-    vouch for the server."""
+    """A desk by its URL, of which a path in front of the desk's is kept. Behind https there may be a client's certificate (a
+    file with its key), and the file of those who vouch for the server."""
 
     def __init__(self, url, certificate=None, authority=None, timeout=30):
         it = urllib.parse.urlsplit(url)
-        self.address, self.timeout, self.tls = (it.hostname, it.port), timeout, None
+        if it.scheme not in ("http", "https") or not it.hostname:
+            raise ValueError(f"{url}: it is no URL of http or https")
+        self.address, self.front, self.timeout, self.tls = (it.hostname, it.port), it.path.rstrip("/"), timeout, None
         if it.scheme == "https":
             self.tls = ssl.create_default_context(cafile=authority)
             if certificate:
@@ -29,7 +31,7 @@ class Desk:
         it = (http.client.HTTPSConnection(*self.address, timeout=self.timeout, context=self.tls) if self.tls
               else http.client.HTTPConnection(*self.address, timeout=self.timeout))
         try:
-            it.request(method, path, body and json.dumps(body), {"Connection": "close", "Content-Type": "application/json"})
+            it.request(method, self.front + path, body and json.dumps(body), {"Connection": "close", "Content-Type": "application/json"})
             reply = it.getresponse()
             is_json = reply.getheader("Content-Type") == "application/json"
             told = json.loads(reply.read()) if is_json else {}
