@@ -14,10 +14,10 @@ class Refused(Exception):
 
 
 class Desk:
-    """A desk by its URL, of which a path in front of the desk's is kept. Behind https there may be a client's certificate (a
-    file with its key), and the file of those who vouch for the server."""
+    """A desk by its URL, of which a path in front of the desk's is kept. Behind https there may be a client's certificate, its
+    key, if that isn't in the same file, and the file of those who vouch for the server."""
 
-    def __init__(self, url, certificate=None, authority=None, timeout=30):
+    def __init__(self, url, certificate=None, authority=None, timeout=30, key=None):
         it = urllib.parse.urlsplit(url)
         if it.scheme not in ("http", "https") or not it.hostname:
             raise ValueError(f"{url}: it is no URL of http or https")
@@ -25,7 +25,7 @@ class Desk:
         if it.scheme == "https":
             self.tls = ssl.create_default_context(cafile=authority)
             if certificate:
-                self.tls.load_cert_chain(certificate)
+                self.tls.load_cert_chain(certificate, key)
 
     def ask_once(self, method, path, body):
         it = (http.client.HTTPSConnection(*self.address, timeout=self.timeout, context=self.tls) if self.tls

@@ -2,7 +2,7 @@
 // usage: life.mjs [--limit DAY] [--certificates FOLDER] URL
 //
 // One life by desk.mjs at an empty desk of CH, with the steps, words and lines of life.py.
-import { readFileSync } from "node:fs";
+import { existsSync, readFileSync } from "node:fs";
 import { join } from "node:path";
 import { parseArgs } from "node:util";
 import { Desk, Refused } from "./desk.mjs";
@@ -40,8 +40,10 @@ try {
 const { limit = new Date(Date.now() + 7 * 86400000).toISOString().slice(0, 10), certificates } = given.values;
 const desk = name => {
   if (!certificates) return new Desk(given.positionals[0]);
-  const [own, ca] = [`${name}.pem`, "authority.pem"].map(it => readFileSync(join(certificates, it)));
-  return new Desk(given.positionals[0], { cert: own, key: own, ca });
+  const read = it => readFileSync(join(certificates, it));
+  const cert = read(`${name}.pem`), authority = ["authority.pem", "clients-ca.pem"].find(it => existsSync(join(certificates, it)));
+  const key = cert.includes("PRIVATE KEY") ? cert : read(`${name}.key`);
+  return new Desk(given.positionals[0], { cert, key, ca: authority && read(authority) });
 };
 try {
   await life(desk("office"), desk("holder"), limit);

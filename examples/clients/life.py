@@ -5,8 +5,9 @@ One life by desk.py at an empty desk of CH: holder 000001 is registered, a guara
 sent again, and refused under the same LRN with another amount; then it is released, has arrived, is controlled and
 written off. Each step is a line. The limit is a week from today (UTC) where no day is given.
 
-With https the folder has office.pem and holder.pem, each a client's certificate with its key, and authority.pem, those
-who vouch for the server.
+With https the folder is one that examples/certificates makes for office and holder. It has office.pem and holder.pem, each a
+client's certificate, whose key is in office.key and holder.key, or behind it; and clients-ca.pem, or authority.pem: those who
+vouch for the server.
 
 Status: 0; 1 where a step fails, with a line on standard error; 2 for wrong words.
 """
@@ -50,7 +51,11 @@ def main():
     def desk(name):
         if not given.certificates:
             return Desk(given.url)
-        return Desk(given.url, *(os.path.join(given.certificates, it) for it in (f"{name}.pem", "authority.pem")))
+        certificate, key, *authorities = (os.path.join(given.certificates, it)
+                                          for it in (f"{name}.pem", f"{name}.key", "authority.pem", "clients-ca.pem"))
+        with open(certificate, encoding="ascii") as it:
+            has_key = "PRIVATE KEY" in it.read()
+        return Desk(given.url, certificate, next(filter(os.path.exists, authorities), None), key=None if has_key else key)
 
     try:
         life(desk("office"), desk("holder"), given.limit)
